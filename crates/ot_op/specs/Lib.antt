@@ -1,0 +1,4 @@
+pub mod Operation
+pub mod Apply
+pub mod Compose
+pub mod Invert
