@@ -1,0 +1,6 @@
+pub mod Clean
+pub mod Formed
+pub mod Law
+pub mod Lines
+pub mod Object
+pub mod Reading
