@@ -1,0 +1,4 @@
+mod Taking
+mod Writing
+mod Recording
+pub mod Delivering

@@ -1,0 +1,5 @@
+pub mod Causes
+pub mod Outside
+pub mod Memory
+pub mod Recorded
+pub mod Buffered
