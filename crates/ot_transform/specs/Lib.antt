@@ -1,0 +1,5 @@
+pub mod Crossing
+pub mod Moved
+pub mod Convergence
+pub mod Room
+pub mod Size

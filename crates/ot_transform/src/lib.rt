@@ -1,0 +1,9 @@
+//! Operations moved past each other, after ShareJS 0.5's text type: two operations on one text are
+//! crossed, so that each can follow the other and both ways make the same text.
+#![tactic(auto)]
+
+mod cross_ops;
+mod moved;
+mod moving;
+
+pub use cross_ops::cross;
