@@ -4,3 +4,4 @@ pub mod Law
 pub mod Lines
 pub mod Object
 pub mod Reading
+pub mod Utf8

@@ -4,7 +4,7 @@ use Rattle.std.specs.Option.{option_and_then}
 use Rattle.ot_units.specs.Text.{put_at}
 use Rattle.ot_op.specs.declared.comp.Comp.{Comp}
 use Rattle.ot_op.specs.declared.comp.Comp.TheVariants.{Ins, Del}
-use Rattle.ot_op.specs.Operation.{is_void}
+use Rattle.ot_op.specs.Operation.{is_void, IsOp}
 use Rattle.ot_op.specs.Apply.{applied, applied_all}
 
 -- the last component and one behind it: an insert into or beside an insert's text joins it, a
@@ -38,3 +38,11 @@ pub record DoesBoth (comps : List Comp) (c : Comp) (made : List Comp) : Type 0 w
 -- `made` does to any text what the first operation and then the second do
 abbrev pub DoesInTurn : List Comp → List Comp → List Comp → Type 0
 DoesInTurn first second made = (text : List ℕ) → applied_all text made ≡ option_and_then (λ next. applied_all next second) (applied_all text first)
+
+-- appending a component does what the operation and then the component do
+abbrev pub AppendsAlike : Type 0
+AppendsAlike = (comps : List Comp) (c : Comp) → DoesBoth comps c (appended comps c)
+
+-- composing two operations does what the first and then the second do
+abbrev pub ComposesAlike : Type 0
+ComposesAlike = (first second : List Comp) → IsOp second → DoesInTurn first second (composed first second)

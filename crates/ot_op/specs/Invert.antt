@@ -1,5 +1,5 @@
 -- The operation that undoes another.
-use Rattle.std.specs.Prelude.{◌≡◌, ℕ, List, [], ◌∷◌, Some, reverse}
+use Rattle.std.specs.Prelude.{◌≡◌, ℕ, List, [], ◌∷◌, Option, Some, None, reverse}
 use Rattle.std.specs.List.{flat_map}
 use Rattle.ot_op.specs.declared.comp.Comp.{Comp}
 use Rattle.ot_op.specs.declared.comp.Comp.TheVariants.{Ins, Del, Com}
@@ -18,3 +18,12 @@ inverted comps = flat_map undoing (reverse comps)
 -- wherever the components make one text of another, `made` makes that one again
 abbrev pub Undoes : List Comp → List Comp → Type 0
 Undoes comps made = (text to : List ℕ) → applied_all text comps ≡ Some to → applied_all to made ≡ Some text
+
+-- inverting undoes
+abbrev pub InvertUndoes : Type 0
+InvertUndoes = (comps : List Comp) → Undoes comps (inverted comps)
+
+-- the list that an optional component is
+abbrev pub one_or_none : Option Comp → List Comp
+one_or_none None = []
+one_or_none (Some c) = c ∷ []

@@ -1,7 +1,7 @@
 //! `append`, a component behind an operation.
 
 ghost use Rattle.std.specs.Prelude.{◌≡◌, ◌∷◌, [], MatchOption, IfOk, IfErr, OnOk, OnErr};
-ghost use Rattle.ot_op.specs.Compose.{joined, appended};
+ghost use Rattle.ot_op.specs.Compose.{joined, appended, DoesBoth, AppendsAlike};
 
 use crate::{Comp, Op};
 use std::alloc::AllocError;
@@ -13,6 +13,7 @@ use std::alloc::AllocError;
 /// Where memory is wanting, the component comes back and nothing changes.
 pub fn append(op: &mut Op, comp: Comp) -> Result<(), (AllocError, Comp)>
     ensures ok { OnOk result (op.new ≡ appended op.old comp) }
+    ensures does { OnOk result (DoesBoth op.old comp op.new) }
     ensures err { OnErr result (op.new ≡ op.old) }
     ensures back { IfErr result (λ e. e.1 ≡ comp) }
 {
@@ -29,6 +30,12 @@ pub fn append(op: &mut Op, comp: Comp) -> Result<(), (AllocError, Comp)>
         Some(comp) => op.push(comp),
     }
 }
+
+/// Appending does to any text what the operation and then the component do. Where the component is
+/// an empty insert or delete, which is dropped, it does so wherever the two apply.
+pub fn append_same()
+    ensures { AppendsAlike }
+{}
 
 // Joins a component into the one before it, or gives it back where the two stay two.
 fn join_into(last: &mut Comp, comp: Comp) -> Result<Option<Comp>, (AllocError, Comp)>

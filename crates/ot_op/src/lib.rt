@@ -5,13 +5,19 @@
 mod append_comp;
 mod apply_op;
 mod comp;
+mod compose_ops;
 mod fault;
+mod invert_op;
 mod op;
+#[cfg(test)]
+mod tests;
 mod text_like;
 
-pub use append_comp::append;
+pub use append_comp::{append, append_same};
 pub use apply_op::apply;
 pub use comp::Comp;
+pub use compose_ops::{compose, compose_same};
 pub use fault::{ApplyFault, FormFault};
+pub use invert_op::{invert, invert_undoes};
 pub use op::Op;
 pub use text_like::TextLike;

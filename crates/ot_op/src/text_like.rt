@@ -4,6 +4,7 @@ ghost use Rattle.std.specs.Prelude.{◌≡◌, ◌≤◌, ◌+◌, ℕ, List, le
 ghost use Rattle.ot_units.specs.Text.{IsText, put_at, cut_at};
 ghost use Rattle.ot_op.specs.Apply.{stands};
 
+use ot_parts::part;
 use ot_units::Units;
 use std::alloc::AllocError;
 
@@ -41,8 +42,10 @@ impl TextLike for Units {
     }
 
     fn same_at(&self, at: usize, other: &[u16]) -> bool {
-        let units = self.as_slice();
-        at <= units.len() && units[at..].starts_with(other)
+        match part(self.as_slice(), at, other.len()) {
+            Some(there) => other == there,
+            None => false,
+        }
     }
 
     fn insert(&mut self, at: usize, other: &[u16]) -> Result<(), AllocError> {

@@ -3,6 +3,7 @@ use Rattle.std.specs.Prelude.{slice_set}
 use Rattle.ot_op.specs.Operation.{is_void}
 use Rattle.ot_op.specs.Compose.{behind}
 use Rattle.ot_op.proofs.Appending.{behind_joined, behind_apart, joined_solid_in, set_same_item}
+use Rattle.ot_op.proofs.Merging.{does_as, does_on}
 use Rattle.ot_op.proofs.append_comp.append.Goals as goal
 
 pub invariant_of-op-in-None : goal.invariant_of-op-in-None
@@ -27,3 +28,9 @@ returns-in-Some-clause-ok c =
     let e : behind c.op.inside.comps.items c.args.comp ≡ c.op.inside.comps.items ++ c.args.comp ∷ [] = behind_apart _ _ _ c.args.comp n c.index_mut-last.ensures.value j.2 in
     let same : slice_set c.op.inside.comps.items (c.len-count.result - 1) c.index_mut-last.result.now ≡ c.op.inside.comps.items = set_same_item _ _ _ c.index_mut-last.ensures.value in
     rw (b, ← c.op.view_is, e) (rw (j.0, j.1, same) at c.push-in-Some.ensures.ok)
+
+pub returns-in-None-clause-does : goal.returns-in-None-clause-does
+returns-in-None-clause-does c = does_as _ _ _ (returns-in-None-clause-ok c)
+
+pub returns-in-Some-clause-does : goal.returns-in-Some-clause-does
+returns-in-Some-clause-does c = does_on _ _ _ _ (returns-in-Some-clause-ok c)

@@ -1,0 +1,4 @@
+pub mod Back
+pub mod Elements
+pub mod Plain
+pub mod Solid
