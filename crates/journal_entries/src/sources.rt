@@ -9,7 +9,7 @@ use std::marker::Model;
 ///
 /// An update names the sources under which its client may have sent it before. Where one of them
 /// has applied it already, it's acknowledged and not applied again (`dupIfSource` of ShareJS 0.5).
-#[derive(Drop)]
+#[derive(Debug, Drop)]
 pub struct Sources {
     sources: Vec<u64>,
 }
