@@ -83,7 +83,7 @@ mutual
       let p = and_parts (is_text k) _ h in
       let q = and_parts (has_texts d) _ p.1 in
       IsUtf8-append (comma_if later) _ (comma_utf8 later) (IsUtf8-append _ _ (IsUtf8-quoted k (text_utf8 k p.0))
-          (then_utf8 58 _ refl (IsUtf8-append (compact_text d) _ (value_utf8 d q.0) (members_utf8 true ms q.1))))
+      (then_utf8 58 _ refl (IsUtf8-append (compact_text d) _ (value_utf8 d q.0) (members_utf8 true ms q.1))))
 
 -- the law
 pub line_back : (d : Data) → is_formed d ≡ true → has_texts d ≡ true → depth d ≤ max_depth → value_of (compact_text d) ≡ Some d
