@@ -1,6 +1,6 @@
 //! Writing in larger pieces: a buffer before a sink.
 
-ghost use Rattle.std.specs.Prelude.{◌≡◌, ◌<◌, ◌≤◌, ◌+◌, ◌-◌, ◌++◌, ℕ, List, [], Option, length, drop, IfOk, OnOk, OnErr, vec_capacity};
+ghost use Rattle.std.specs.Prelude.{◌≡◌, ◌<◌, ◌≤◌, ◌+◌, ◌++◌, ℕ, List, [], Option, length, drop, IfOk, OnOk, OnErr};
 ghost use Rattle.source_sink.specs.Causes.{HasCause};
 ghost use Rattle.source_sink.specs.Buffered.{Delivered, DeliveredPrefix};
 
@@ -12,9 +12,9 @@ use std::marker::Model;
 /// How many bytes a [`WriteBuffer`] holds at most: 64 KiB.
 pub const BUFFER_SIZE: usize = 65_536;
 
-/// Bytes on their way to a sink, which is passed to each call. All of its memory is taken when it is
-/// made. What it holds goes to the sink by [`WriteBuffer::flush`]: a buffer that is dropped writes
-/// nothing.
+/// Bytes on their way to a sink, which is passed to each call. All of its memory is taken when it
+/// is made. What it holds goes to the sink by [`WriteBuffer::flush`]: a buffer that is dropped
+/// writes nothing.
 #[derive(Drop)]
 pub struct WriteBuffer {
     bytes: Vec<u8>,
@@ -27,7 +27,8 @@ impl Model for WriteBuffer {
 
     ghost view = { λ buffer. buffer.bytes.items };
 
-    ghost invariant = { λ buffer. (length buffer.bytes.items ≤ 65536) × (65536 ≤ vec_capacity buffer.bytes) };
+    ghost invariant = { λ buffer.
+        (length buffer.bytes.items ≤ 65536) × (65536 ≤ vec_capacity buffer.bytes) };
 }
 
 impl WriteBuffer {
@@ -55,7 +56,8 @@ impl WriteBuffer {
             → OnOk result (Delivered start (W.written out.new) self.new (text ++ bytes.now)) }
         ensures err { (start : Option (List ℕ)) (text : List ℕ)
             → Delivered start (W.written out.old) self.old text
-            → OnErr result (DeliveredPrefix start (W.written out.new) self.new (text ++ bytes.now)) }
+            → OnErr result
+            (DeliveredPrefix start (W.written out.new) self.new (text ++ bytes.now)) }
         ensures cause { HasCause (W.count out.old) (W.count out.new) result }
     {
         self.make_room(out, bytes.len())?;
@@ -66,7 +68,8 @@ impl WriteBuffer {
         Ok(())
     }
 
-    /// Writes what the buffer holds to `out`. After [`Failed`] the buffer holds what was not written.
+    /// Writes what the buffer holds to `out`. After [`Failed`] the buffer holds what was not
+    /// written.
     pub fn flush<W: Sink>(&mut self, out: &mut W) -> Result<(), Failed>
         ensures delivered { (start : Option (List ℕ)) (text : List ℕ)
             → Delivered start (W.written out.old) self.old text

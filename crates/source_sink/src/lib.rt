@@ -1,7 +1,7 @@
 //! Where bytes come from and where they go. A [`Source`] and a [`Sink`] tell what was read and
-//! written, and count their faults, so that a caller's contract can say which bytes an answer stands
-//! on and that a fault of the outside has come. There are forms in memory, for tests and proofs, and
-//! forms over `std::io`.
+//! written, and count their faults, so that a caller's contract can say which bytes an answer
+//! stands on and that a fault of the outside has come. There are forms in memory, for tests and
+//! proofs, and forms over `std::io`.
 #![tactic(auto)]
 
 mod buffer;

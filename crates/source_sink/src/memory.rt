@@ -1,6 +1,6 @@
 //! A source and a sink in memory, of which chosen calls fail.
 
-ghost use Rattle.std.specs.Prelude.{◌≡◌, ◌↔◌, ◌+◌, ◌-◌, ◌^◌, ◌<◌, ◌≤◌, ◌++◌, [], Some, length, take, drop, min, if◌then◌else◌, is_err, IfOk, IsOk, IsErr, OnOk, OnErr, Contains};
+ghost use Rattle.std.specs.Prelude.{◌≡◌, ◌↔◌, ◌+◌, ◌-◌, ◌^◌, ◌<◌, ◌≤◌, ◌++◌, [], Some, length, take, drop, min, IfOk, IsErr, Contains};
 ghost use Rattle.std.specs.Io.{ReadsAtMost, WritesAtMost};
 ghost use Rattle.std.specs.Io.KnownBytes.{ReadConsumes, WriteAppends};
 ghost use Rattle.source_sink.specs.Causes.{HasCause};
@@ -62,7 +62,8 @@ impl Source for ByteSource {
         ensures bound { ReadsAtMost result into.new }
         ensures bytes { ReadConsumes (Some self.old.left) (Some self.new.left) result into.new }
         ensures cause { HasCause self.old.faults self.new.faults result }
-        ensures as_much_as_fits { IfOk result (λ count. count ≡ min (length into.new) (length self.old.left)) }
+        ensures as_much_as_fits { IfOk result (λ count.
+            count ≡ min (length into.new) (length self.old.left)) }
         ensures calls { self.new.calls ≡ min (self.old.calls + 1) (2 ^ 64 - 1) }
         ensures fails { IsErr result ↔ Contains self.old.fails self.new.calls }
         ensures same_fails { self.new.fails ≡ self.old.fails }
@@ -117,8 +118,8 @@ impl Model for ByteSink {
 }
 
 impl ByteSink {
-    /// An empty sink, whose k-th call of `write`, counted from 1, fails where k is in `fails`. A call
-    /// fails besides where memory is wanting.
+    /// An empty sink, whose k-th call of `write`, counted from 1, fails where k is in `fails`. A
+    /// call fails besides where memory is wanting.
     pub fn new(alloc: Global, fails: &[u64]) -> Result<ByteSink, AllocError>
         ensures { IfOk result (λ sink.
             sink ≡ record { written = []; fails = fails.now; calls = 0; faults = 0 }) }
