@@ -5,5 +5,9 @@
 mod cross_ops;
 mod moved;
 mod moving;
+mod room;
+mod through_ops;
 
 pub use cross_ops::cross;
+pub use room::fits;
+pub use through_ops::through;
