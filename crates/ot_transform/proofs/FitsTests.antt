@@ -1,12 +1,12 @@
 -- The tests of room for places, by lists.
-use Rattle.std.proofs.Common.{◌≡◌, ℕ, ◌+◌, ◌-◌, ◌^◌, ◌<◌, ◌≤◌, Bool, true, false, List, [], ◌∷◌, ◌++◌, refl, ap, sym, ◌∙◌, take, length, get_or, arith}
-use Rattle.std.specs.Prelude.{nat_lt, min, IsTrue, ◌&&◌, ◌↔◌}
+use Rattle.std.proofs.Common.{◌≡◌, ℕ, ◌+◌, ◌-◌, ◌^◌, ◌<◌, true, List, [], ◌∷◌, ◌++◌, refl, ap, sym, ◌∙◌, take, length, get_or, arith}
+use Rattle.std.specs.Prelude.{nat_lt, min}
 use Rattle.std.specs.List.{list_all}
 use Rattle.std.proofs.lemmas.List.{take_more}
 use Rattle.std.proofs.lemmas.Bool.{ltb-true, lt-ltb}
 use Rattle.ot_op.specs.Operation.{place}
 use Rattle.ot_op.specs.declared.comp.Comp.{Comp}
-use Rattle.ot_transform.specs.Room.{new_units, Room, Fits}
+use Rattle.ot_transform.specs.Room.{new_units, Room}
 use Rattle.ot_op.proofs.Pieces.{both_true}
 use Rattle.ot_transform.proofs.Rooms.{units-append}
 

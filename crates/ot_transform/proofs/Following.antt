@@ -1,9 +1,9 @@
 -- An operation past a list of others.
-use Rattle.std.proofs.Common.{◌≡◌, ℕ, zero, suc, ◌+◌, ◌^◌, ◌<◌, ◌≤◌, List, [], ◌∷◌, refl, ap, sym, ◌∙◌, arith, Some, None, Option, length, drop, get_or, subst}
+use Rattle.std.proofs.Common.{◌≡◌, ℕ, suc, ◌+◌, ◌^◌, ◌<◌, ◌≤◌, List, [], ◌∷◌, refl, ap, sym, ◌∙◌, arith, Some, None, Option, length, drop, get_or, subst}
 use Rattle.std.specs.Prelude.{Result, Ok, Err, IfOk, IfSome, IsSomeAnd, max}
 use Rattle.std.specs.List.{All}
 use Rattle.std.specs.Option.{option_and_then}
-use Rattle.std.proofs.lemmas.List.{at_drop_more, drop_all}
+use Rattle.std.proofs.lemmas.List.{at_drop_more}
 use Rattle.std.proofs.lemmas.List.Elements.{All-nil, All-cons, All-head, All-tail}
 use Rattle.ot_op.specs.Operation.{place}
 use Rattle.ot_op.specs.Apply.{applied_all}
@@ -12,7 +12,7 @@ use Rattle.ot_transform.specs.Crossing.{Crossed, crossed, through}
 use Rattle.ot_transform.specs.Convergence.{applied_each, Follows}
 use Rattle.ot_transform.specs.Room.{new_units, new_units_of_all, RoomBelow, Room, Fits, FitsAll}
 use Rattle.ot_transform.specs.Size.{Within, NoLarger, BothNoLarger, edit_units, comment_count}
-use Rattle.ot_transform.proofs.Depth.{IfGiven, given_then, given_both, given_weaker}
+use Rattle.ot_transform.proofs.Depth.{IfGiven, given_then, given_weaker}
 use Rattle.ot_transform.proofs.Converging.{Meets, given_at}
 use Rattle.ot_transform.proofs.Cases.{convergence}
 use Rattle.ot_transform.proofs.Rooms.{crossed_roomy, Kept, room_less}

@@ -6,6 +6,8 @@ mod cross_ops;
 mod moved;
 mod moving;
 mod room;
+#[cfg(test)]
+mod tests;
 mod through_ops;
 
 pub use cross_ops::cross;

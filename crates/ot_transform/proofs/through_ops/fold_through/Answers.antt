@@ -1,4 +1,4 @@
-use Rattle.std.proofs.Common.{◌≡◌, ◌+◌, ◌∷◌, drop, sym, ◌∙◌, Some, None}
+use Rattle.std.proofs.Common.{◌≡◌, sym, ◌∙◌, Some, None}
 use Rattle.ot_transform.specs.Crossing.{crossed}
 use Rattle.ot_transform.proofs.Following.{through_stops, through_goes_on, past_turn, fits_all_first, fits_all_next}
 use Rattle.ot_transform.proofs.through_ops.fold_through.Goals as goal
