@@ -5,5 +5,6 @@ pub mod Cases
 pub mod Rooms
 pub mod Turns
 pub mod Weights
-pub mod Through
+pub mod Following
+pub mod FitsTests
 mod Rows

@@ -1,8 +1,6 @@
 -- One turn of the walks, by the list that is left.
 use Rattle.std.proofs.Common.{◌≡◌, ℕ, suc, ◌+◌, ◌<◌, ◌≤◌, List, [], ◌∷◌, ◌++◌, refl, ap, sym, ◌∙◌, drop, length, get_or, arith, Some, None, subst}
-use Rattle.std.specs.Option.{option_and_then, option_map}
-use Rattle.std.specs.Prelude.{nat_lt, if◌then◌else◌, Bool, true, false}
-use Rattle.std.proofs.lemmas.Bool.{ltb-true}
+use Rattle.std.specs.Option.{option_and_then}
 use Rattle.std.proofs.lemmas.List.{at_drop_more, drop_all}
 use Rattle.ot_op.specs.Compose.{appended, composed}
 use Rattle.ot_op.specs.declared.comp.Comp.{Comp}

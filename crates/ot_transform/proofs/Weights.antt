@@ -1,13 +1,12 @@
 -- What crossing never adds to: a weight that neither joining nor moving a component raises.
-use Rattle.std.proofs.Common.{◌≡◌, ℕ, zero, suc, ◌+◌, ◌-◌, ◌≤◌, Bool, true, false, List, [], ◌∷◌, ◌++◌, refl, ap, ◌∙◌, take, drop, length, arith, length-append, length-take, length-drop}
+use Rattle.std.proofs.Common.{◌≡◌, ℕ, zero, suc, ◌+◌, ◌-◌, ◌≤◌, Bool, true, false, List, [], ◌∷◌, ap, ◌∙◌, take, drop, length, arith, length-append, length-take, length-drop}
 use Rattle.std.specs.Prelude.{sum_by, nat_le, nat_lt, ◌==◌, ◌&&◌, if◌then◌else◌}
 use Rattle.std.proofs.lemmas.List.Sums.{sum_by-cons, sum_by-append}
-use Rattle.ot_units.specs.Text.{put_at}
 use Rattle.ot_op.specs.Operation.{is_void}
 use Rattle.ot_op.specs.Compose.{joined, behind, appended, composed}
 use Rattle.ot_op.specs.declared.comp.Comp.{Comp}
 use Rattle.ot_op.specs.declared.comp.Comp.TheVariants.{Ins, Del, Com}
-use Rattle.ot_transform.specs.Crossing.{moved_component, deleted_before, deleted_behind, left_of, agree, Crossed, by_hand, met, walked, crossed_by, crossed_within, crossed, inserts}
+use Rattle.ot_transform.specs.Crossing.{moved_component, deleted_before, deleted_behind, left_of, agree, Crossed, met, walked, crossed_by, crossed_within, crossed, inserts}
 use Rattle.ot_transform.specs.Size.{edit_units, comment_count}
 use Rattle.ot_transform.proofs.Depth.{IfGiven, given_if, given_then, given_weaker, given_map}
 use Rattle.ot_transform.proofs.Rooms.{hand_cases, length-put}

@@ -36,3 +36,8 @@ pub record NoLarger (op : List Comp) (further : ℕ) (made : List Comp) : Type 0
   pub units : edit_units_in made ≤ edit_units_in op
   pub comments : comments_in made ≤ comments_in op
   pub places : (most : ℕ) → Within most op → Within (most + further) made
+
+-- what two operations become past each other is no larger, and its places are at most so many
+-- units further on as the other one inserts
+abbrev pub BothNoLarger : List Comp → List Comp → (List Comp × List Comp) → Type 0
+BothNoLarger left right both = NoLarger left (new_units right) both.0 × NoLarger right (new_units left) both.1

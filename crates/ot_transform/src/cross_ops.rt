@@ -1,12 +1,13 @@
 //! `cross`, two operations past each other.
 
-ghost use Rattle.std.specs.Prelude.{◌≡◌, ◌<◌, ◌+◌, ◌^◌, [], ◌∷◌, Some, None, IfOk, OnOk, MatchOption};
+ghost use Rattle.std.specs.Prelude.{◌≡◌, ◌<◌, ◌+◌, ◌^◌, [], ◌∷◌, Some, None, IfOk, IfSome, OnOk, MatchOption};
 ghost use Rattle.ot_op.specs.Operation.{IsOp, place};
 ghost use Rattle.ot_op.specs.Compose.{composed};
 ghost use Rattle.ot_transform.specs.Crossing.{met, walked, after_meeting, crossed};
 ghost use Rattle.ot_transform.specs.Moved.{moved_list, walk_lists};
 ghost use Rattle.ot_transform.specs.Convergence.{Converges};
 ghost use Rattle.ot_transform.specs.Room.{new_units, Fits};
+ghost use Rattle.ot_transform.specs.Size.{BothNoLarger};
 
 use crate::moved::{Moved, append_all, append_moved};
 use crate::moving::move_component;
@@ -22,6 +23,7 @@ pub fn cross(alloc: Global, left: &Op, right: &Op) -> Result<Option<(Op, Op)>, A
     requires { Fits left.now right.now }
     ensures value { IfOk result (λ both. both ≡ crossed left.now right.now) }
     ensures converges { IfOk result (λ both. Converges left.now right.now both) }
+    ensures no_larger { IfOk result (λ both. IfSome both (BothNoLarger left.now right.now)) }
 {
     cross_lists(alloc, left.comps(), right.comps())
 }

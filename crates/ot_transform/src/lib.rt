@@ -5,5 +5,11 @@
 mod cross_ops;
 mod moved;
 mod moving;
+mod room;
+#[cfg(test)]
+mod tests;
+mod through_ops;
 
 pub use cross_ops::cross;
+pub use room::fits;
+pub use through_ops::through;

@@ -142,50 +142,50 @@ fn delete_unless_empty(at: u32, part: Units) -> Moved
 // A comment past an insert.
 fn widen_comment(
     at: u32,
-    mut part: Units,
+    mut text: Units,
     thread: u32,
     place: u32,
     other: &Units,
     right: bool,
 ) -> Result<Moved, AllocError>
     requires { at + length other.now < 2 ^ 32 }
-    ensures { IfOk result (λ moved. Some (moved_list moved) ≡ moved_component (Comp.Com at part thread) (Comp.Ins place other.now) right) }
+    ensures { IfOk result (λ moved. Some (moved_list moved) ≡ moved_component (Comp.Com at text thread) (Comp.Ins place other.now) right) }
 {
-    if at < place && ((place - at) as usize) < part.len() {
-        part.put_in((place - at) as usize, other.as_slice())?;
-        return Ok(Moved::One(Comp::Com(at, part, thread)));
+    if at < place && ((place - at) as usize) < text.len() {
+        text.put_in((place - at) as usize, other.as_slice())?;
+        return Ok(Moved::One(Comp::Com(at, text, thread)));
     }
     let moved = if place <= at {
         at + other.len() as u32
     } else {
         at
     };
-    Ok(Moved::One(Comp::Com(moved, part, thread)))
+    Ok(Moved::One(Comp::Com(moved, text, thread)))
 }
 
 // A comment past a delete.
 fn move_comment(
     at: u32,
-    mut part: Units,
+    mut text: Units,
     thread: u32,
     place: u32,
     other: &Units,
     right: bool,
 ) -> Option<Moved>
-    ensures { moved_lists result ≡ moved_component (Comp.Com at part thread) (Comp.Del place other.now) right }
+    ensures { moved_lists result ≡ moved_component (Comp.Com at text thread) (Comp.Del place other.now) right }
 {
     if place as usize + other.len() <= at as usize {
         let at = at - other.len() as u32;
-        return Some(Moved::One(Comp::Com(at, part, thread)));
+        return Some(Moved::One(Comp::Com(at, text, thread)));
     }
-    if at as usize + part.len() <= place as usize {
-        return Some(Moved::One(Comp::Com(at, part, thread)));
+    if at as usize + text.len() <= place as usize {
+        return Some(Moved::One(Comp::Com(at, text, thread)));
     }
-    if !agrees(at, &part, place, other) {
+    if !agrees(at, &text, place, other) {
         return None;
     }
-    cut_common(at, &mut part, place, other.len());
-    Some(Moved::One(Comp::Com(at.min(place), part, thread)))
+    cut_common(at, &mut text, place, other.len());
+    Some(Moved::One(Comp::Com(at.min(place), text, thread)))
 }
 
 // Whether two texts that overlap have the same units where they do.

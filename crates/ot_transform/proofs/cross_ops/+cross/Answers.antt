@@ -1,12 +1,11 @@
-use Rattle.std.proofs.Common.{◌≡◌, ◌<◌, ◌+◌, ◌*◌, List, [], ◌∷◌, length, arith, sym, ap, ◌∙◌, get_or, Some, None, false, subst}
+use Rattle.std.proofs.Common.{◌≡◌, ◌<◌, ◌+◌, ◌*◌, [], ◌∷◌, arith, sym, ap, ◌∙◌, Some, None, false}
 use Rattle.std.proofs.lemmas.List.Elements.{All-tail}
 use Rattle.ot_op.specs.Operation.{is_void}
-use Rattle.ot_op.specs.declared.comp.Comp.{Comp}
-use Rattle.ot_transform.specs.Moved.{walk_lists, moved_list}
+use Rattle.ot_transform.specs.Moved.{walk_lists}
 use Rattle.ot_transform.specs.Room.{Fits}
 use Rattle.ot_transform.specs.Crossing.{met, walked, crossed, inserts}
-use Rattle.ot_transform.proofs.Turns.{crossed_stops, crossed_goes_on, crossed_ends, walked_few, walk_goes_on, walk_meets, walk_stops, fewer_left, drop_turn, Walked}
-use Rattle.ot_transform.proofs.Rooms.{fits_first, fits_next, fits_tail, fits_meeting}
+use Rattle.ot_transform.proofs.Turns.{crossed_stops, crossed_goes_on, crossed_ends, walked_few, walk_goes_on, fewer_left, drop_turn, Walked}
+use Rattle.ot_transform.proofs.Rooms.{fits_first, fits_next, fits_tail}
 use Rattle.ot_transform.proofs.cross_ops.+cross.Goals as goal
 
 pub cross_lists-walk-requires : goal.cross_lists-walk-requires

@@ -1,9 +1,9 @@
 -- An operation past a list of others.
-use Rattle.std.proofs.Common.{◌≡◌, ℕ, zero, suc, ◌+◌, ◌^◌, ◌<◌, ◌≤◌, List, [], ◌∷◌, refl, ap, sym, ◌∙◌, arith, Some, None, Option, length, drop, get_or, subst}
-use Rattle.std.specs.Prelude.{IsSomeAnd, max}
+use Rattle.std.proofs.Common.{◌≡◌, ℕ, suc, ◌+◌, ◌^◌, ◌<◌, ◌≤◌, List, [], ◌∷◌, refl, ap, sym, ◌∙◌, arith, Some, None, Option, length, drop, get_or, subst}
+use Rattle.std.specs.Prelude.{Result, Ok, Err, IfOk, IfSome, IsSomeAnd, max}
 use Rattle.std.specs.List.{All}
 use Rattle.std.specs.Option.{option_and_then}
-use Rattle.std.proofs.lemmas.List.{at_drop_more, drop_all}
+use Rattle.std.proofs.lemmas.List.{at_drop_more}
 use Rattle.std.proofs.lemmas.List.Elements.{All-nil, All-cons, All-head, All-tail}
 use Rattle.ot_op.specs.Operation.{place}
 use Rattle.ot_op.specs.Apply.{applied_all}
@@ -11,8 +11,8 @@ use Rattle.ot_op.specs.declared.comp.Comp.{Comp}
 use Rattle.ot_transform.specs.Crossing.{Crossed, crossed, through}
 use Rattle.ot_transform.specs.Convergence.{applied_each, Follows}
 use Rattle.ot_transform.specs.Room.{new_units, new_units_of_all, RoomBelow, Room, Fits, FitsAll}
-use Rattle.ot_transform.specs.Size.{Within, NoLarger, edit_units, comment_count}
-use Rattle.ot_transform.proofs.Depth.{IfGiven, given_then, given_both, given_weaker}
+use Rattle.ot_transform.specs.Size.{Within, NoLarger, BothNoLarger, edit_units, comment_count}
+use Rattle.ot_transform.proofs.Depth.{IfGiven, given_then, given_weaker}
 use Rattle.ot_transform.proofs.Converging.{Meets, given_at}
 use Rattle.ot_transform.proofs.Cases.{convergence}
 use Rattle.ot_transform.proofs.Rooms.{crossed_roomy, Kept, room_less}
@@ -79,10 +79,6 @@ right_places ls rs most w =
     let right : RoomBelow high (new_units ls + 0) rs = room_less high (new_units ls + 0) (new_units ls) rs (omega arith) (within_room most (new_units ls) rs w) in
     given_weaker (Kept top high 0 0 ls rs) (λ both. Within (most + new_units ls) both.1) (crossed ls rs) (λ both k. room_within (most + new_units ls) both.1 k.3) (crossed_roomy top high 0 0 ls rs left right)
 
--- what both sides are no larger than
-abbrev pub BothNoLarger : List Comp → List Comp → (List Comp × List Comp) → Type 0
-BothNoLarger ls rs both = NoLarger ls (new_units rs) both.0 × NoLarger rs (new_units ls) both.1
-
 -- crossing makes neither side larger
 pub crossed_no_larger : (ls rs : List Comp) → IfGiven (crossed ls rs) (BothNoLarger ls rs)
 crossed_no_larger ls rs = go (crossed ls rs) refl
@@ -134,6 +130,17 @@ all_less op made (x ∷ xs) h a =
 pub through_turn : (op : List Comp) (past : List (List Comp)) (i : ℕ) (other : List Comp) → i < length past → other ≡ get_or past i other → through op (drop i past) ≡ option_and_then (λ (both : List Comp × List Comp). through both.0 (drop (i + 1) past)) (crossed op other)
 through_turn op past i other lt is = at_drop_more (through op) past i other lt ∙ ap (λ (x : List Comp). option_and_then (λ (both : List Comp × List Comp). through both.0 (drop (i + 1) past)) (crossed op x)) (sym is)
 
+pub through_stops : (first op : List Comp) (past : List (List Comp)) (i : ℕ) (other : List Comp) → through op (drop i past) ≡ through first past → i < length past → other ≡ get_or past i other → crossed op other ≡ None → through first past ≡ None
+through_stops first op past i other same lt is none =
+    sym same ∙ through_turn op past i other lt is ∙ ap (option_and_then (λ (both : List Comp × List Comp). through both.0 (drop (i + 1) past))) none
+
+pub through_goes_on : (first op next right : List Comp) (past : List (List Comp)) (i : ℕ) (other : List Comp) → through op (drop i past) ≡ through first past → i < length past → other ≡ get_or past i other → crossed op other ≡ Some (next, right) → through next (drop (i + 1) past) ≡ through first past
+through_goes_on first op next right past i other same lt is given =
+    sym (sym same ∙ through_turn op past i other lt is ∙ ap (option_and_then (λ (both : List Comp × List Comp). through both.0 (drop (i + 1) past))) given)
+
+pub past_turn : (past : List (List Comp)) (i : ℕ) (other : List Comp) → i < length past → other ≡ get_or past i other → drop i past ≡ other ∷ drop (i + 1) past
+past_turn past i other lt is = at_drop_more (λ (xs : List (List Comp)). xs) past i other lt ∙ ap (λ (x : List Comp). x ∷ drop (i + 1) past) (sym is)
+
 pub fits_all_first : (op other : List Comp) (rest : List (List Comp)) → FitsAll op (other ∷ rest) → Fits op other
 fits_all_first op other rest f =
     (room_less (2 ^ 32) (new_units other) (new_units other + new_units_of_all rest) op (omega arith) f.0, All-head (λ (x : List Comp). Room (new_units op) x) other rest f.1)
@@ -145,3 +152,20 @@ fits_all_next op other rest both f e =
     given_at (Kept (2 ^ 32) (2 ^ 32) (new_units_of_all rest) 0 op other) (crossed op other) both e
     (crossed_roomy (2 ^ 32) (2 ^ 32) (new_units_of_all rest) 0 op other f.0 (room_less (2 ^ 32) (new_units op + 0) (new_units op) other (omega arith) (All-head (λ (x : List Comp). Room (new_units op) x) other rest f.1))) in
     (k.2, all_less op both.0 rest k.0 (All-tail (λ (x : List Comp). Room (new_units op) x) other rest f.1))
+
+-- ---- the clauses of what is made
+if_given : {A : Type 0} (o : Option A) (P : A → Type 0) → IfGiven o P → IfSome o P
+if_given None P h = tt
+if_given (Some x) P h = h
+
+pub no_larger_on : {E : Type 0} (ls rs : List Comp) (r : Result Crossed E) → IfOk r (λ both. both ≡ crossed ls rs) → IfOk r (λ both. IfSome both (BothNoLarger ls rs))
+no_larger_on ls rs (Ok both) e = if_given both (BothNoLarger ls rs) (subst (λ (o : Crossed). IfGiven o (BothNoLarger ls rs)) (sym e) (crossed_no_larger ls rs))
+no_larger_on ls rs (Err x) e = tt
+
+pub follows_on : {E : Type 0} (op : List Comp) (past : List (List Comp)) (r : Result (Option (List Comp)) E) → IfOk r (λ made. made ≡ through op past) → IfOk r (λ made. Follows op past made)
+follows_on op past (Ok made) e = subst (λ (o : Option (List Comp)). Follows op past o) (sym e) (follows op past)
+follows_on op past (Err x) e = tt
+
+pub through_no_larger_on : {E : Type 0} (op : List Comp) (past : List (List Comp)) (r : Result (Option (List Comp)) E) → IfOk r (λ made. made ≡ through op past) → IfOk r (λ made. IfSome made (NoLarger op (new_units_of_all past)))
+through_no_larger_on op past (Ok made) e = if_given made (NoLarger op (new_units_of_all past)) (subst (λ (o : Option (List Comp)). IfGiven o (NoLarger op (new_units_of_all past))) (sym e) (through_no_larger op past))
+through_no_larger_on op past (Err x) e = tt
