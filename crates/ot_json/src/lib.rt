@@ -9,6 +9,8 @@ mod component;
 mod fault;
 mod read;
 mod reading;
+#[cfg(test)]
+mod tests;
 mod write;
 
 pub use fault::OpFault;
