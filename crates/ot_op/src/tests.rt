@@ -1,10 +1,11 @@
 //! What the calls answer with ample memory, on small operations worked by hand.
 
-use crate::{ApplyFault, Comp, Op, append, apply, compose, invert};
+use crate::{ApplyFault, Comp, FormFault, Op, append, apply, compose, invert};
 use Kind::{Comment, Delete, Insert};
 use ot_units::Units;
 use std::alloc::Global;
 use std::process::Abort;
+use std::string::ToString;
 use std::test::Fail;
 
 #[derive(Clone, Copy)]
@@ -110,6 +111,30 @@ fn inverts(rt: HostRuntime) -> Result<(), Fail> {
     );
     let copy = Op::from_slice(alloc, inverse.comps())?;
     assert_eq!(rt; copy.comps(), inverse.comps());
+    Ok(())
+}
+
+#[test]
+fn shows_faults(rt: HostRuntime) -> Result<(), Fail> {
+    for (fault, want) in [
+        (FormFault::Form(0), "component 0 is out of form"),
+        (
+            FormFault::Supplementary(7),
+            "component 7 has a supplementary character",
+        ),
+        (
+            FormFault::TooLarge {
+                comps: 2,
+                units: 70_000,
+            },
+            "2 components of 70000 units are too large",
+        ),
+    ] {
+        let shown = fault.to_string(rt.alloc())?;
+        assert_eq!(rt; shown.as_str(), want);
+    }
+    let shown = ApplyFault::Mismatch(12).to_string(rt.alloc())?;
+    assert_eq!(rt; shown.as_str(), "component 12 does not apply");
     Ok(())
 }
 
