@@ -7,7 +7,7 @@ use Rattle.ot_op.specs.Compose.{composed}
 use Rattle.ot_op.specs.declared.comp.Comp.{Comp}
 use Rattle.ot_op.specs.declared.comp.Comp.TheVariants.{Ins, Del, Com}
 
--- a place, moved_place past a component; `after` says on which side of an insert at the same place
+-- a place past a component; where `after` is true it goes behind an insert at the same place
 abbrev pub moved_place : ℕ → Comp → Bool → ℕ
 moved_place place (Ins at part) after = if nat_lt at place || (at == place && after) then place + length part else place
 moved_place place (Del at part) after = if nat_le place at then place else if nat_le place (at + length part) then at else place - length part
@@ -38,7 +38,9 @@ agree p s q u =
 abbrev pub delete_if_any : ℕ → List ℕ → List Comp
 delete_if_any at part = if length part == 0 then [] else Del at part ∷ []
 
--- a component past another one, on its right side or on its left
+-- what a component becomes past another one on the same text: of two inserts at one place the one
+-- that goes right comes behind the other. None where the two say that different texts stand at one
+-- place. A part that stands wholly behind the other one is tried first, then one wholly before it
 abbrev pub moved_component : Comp → Comp → Bool → Option (List Comp)
 moved_component (Ins p s) (Ins q u) right = Some (Ins (moved_place p (Ins q u) right) s ∷ [])
 moved_component (Ins p s) (Del q u) right = Some (Ins (moved_place p (Del q u) right) s ∷ [])

@@ -18,7 +18,8 @@ use std::alloc::{AllocError, Global};
 /// the right one as it follows the left one. Of two inserts at one place the left one's comes first.
 ///
 /// The answer is `None` where two components say that different texts stand at one place, which
-/// never comes where both operations apply to one text.
+/// never comes where both operations apply to one text. Neither becomes larger, and its places are
+/// at most as many units further on as the other one inserts. `fits` says whether these stay places.
 pub fn cross(alloc: Global, left: &Op, right: &Op) -> Result<Option<(Op, Op)>, AllocError>
     requires { Fits left.now right.now }
     ensures value { IfOk result (λ both. both ≡ crossed left.now right.now) }

@@ -2,7 +2,7 @@
 //!
 //! The tables are this project's own, after ShareJS 0.5's `transformComponent`.
 
-ghost use Rattle.std.specs.Prelude.{◌≡◌, ◌<◌, ◌+◌, ◌-◌, ◌≤◌, ◌^◌, [], ◌∷◌, ◌++◌, Some, IfOk, OnErr, OnOk, length, take, drop};
+ghost use Rattle.std.specs.Prelude.{false, ◌≡◌, ◌<◌, ◌+◌, ◌-◌, ◌≤◌, ◌^◌, [], ◌∷◌, ◌++◌, Some, IfOk, OnErr, OnOk, length, take, drop};
 ghost use Rattle.ot_units.specs.Text.{put_at};
 ghost use Rattle.ot_op.specs.Operation.{place};
 ghost use Rattle.ot_transform.specs.Room.{new_units};
@@ -34,13 +34,13 @@ pub fn move_component(
             Ok(Some(split_delete(alloc, at, part, *place, other.len())?))
         }
         (Comp::Del(at, part), Comp::Del(place, other)) => {
-            Ok(move_delete(at, part, *place, other, right))
+            Ok(move_delete(at, part, *place, other))
         }
         (Comp::Com(at, part, thread), Comp::Ins(place, other)) => {
-            Ok(Some(widen_comment(at, part, thread, *place, other, right)?))
+            Ok(Some(widen_comment(at, part, thread, *place, other)?))
         }
         (Comp::Com(at, part, thread), Comp::Del(place, other)) => {
-            Ok(move_comment(at, part, thread, *place, other, right))
+            Ok(move_comment(at, part, thread, *place, other))
         }
         (comp, Comp::Com(_, _, _)) => Ok(Some(Moved::One(comp))),
     }
@@ -113,8 +113,8 @@ fn keep_behind(part: &mut Units, len: usize)
 }
 
 // A delete past a delete.
-fn move_delete(at: u32, mut part: Units, place: u32, other: &Units, right: bool) -> Option<Moved>
-    ensures { moved_lists result ≡ moved_component (Comp.Del at part) (Comp.Del place other.now) right }
+fn move_delete(at: u32, mut part: Units, place: u32, other: &Units) -> Option<Moved>
+    ensures { moved_lists result ≡ moved_component (Comp.Del at part) (Comp.Del place other.now) false }
 {
     if place as usize + other.len() <= at as usize {
         return Some(Moved::One(Comp::Del(at - other.len() as u32, part)));
@@ -146,10 +146,9 @@ fn widen_comment(
     thread: u32,
     place: u32,
     other: &Units,
-    right: bool,
 ) -> Result<Moved, AllocError>
     requires { at + length other.now < 2 ^ 32 }
-    ensures { IfOk result (λ moved. Some (moved_list moved) ≡ moved_component (Comp.Com at text thread) (Comp.Ins place other.now) right) }
+    ensures { IfOk result (λ moved. Some (moved_list moved) ≡ moved_component (Comp.Com at text thread) (Comp.Ins place other.now) false) }
 {
     if at < place && ((place - at) as usize) < text.len() {
         text.put_in((place - at) as usize, other.as_slice())?;
@@ -164,15 +163,8 @@ fn widen_comment(
 }
 
 // A comment past a delete.
-fn move_comment(
-    at: u32,
-    mut text: Units,
-    thread: u32,
-    place: u32,
-    other: &Units,
-    right: bool,
-) -> Option<Moved>
-    ensures { moved_lists result ≡ moved_component (Comp.Com at text thread) (Comp.Del place other.now) right }
+fn move_comment(at: u32, mut text: Units, thread: u32, place: u32, other: &Units) -> Option<Moved>
+    ensures { moved_lists result ≡ moved_component (Comp.Com at text thread) (Comp.Del place other.now) false }
 {
     if place as usize + other.len() <= at as usize {
         let at = at - other.len() as u32;

@@ -13,6 +13,7 @@ use std::alloc::{AllocError, Global};
 /// An operation past each of the past ones in turn: crossed as the left one with the first, what
 /// comes of it with the second, and so on. So an operation on an old version of a text becomes one
 /// on the present text, and `None` doesn't come where it applies to the version it was made for.
+/// Its places must have room for all that the past ones insert, and theirs for what it inserts.
 pub fn through(alloc: Global, op: &Op, past: &[Op]) -> Result<Option<Op>, AllocError>
     requires { FitsAll op.now past.now }
     ensures value { IfOk result (λ made. made ≡ through op.now past.now) }
