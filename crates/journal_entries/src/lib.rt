@@ -1,11 +1,13 @@
-//! What the journals of the boards are made of.
-//!
-//! A journal is a list of entries: what happened to the documents, the clients and their updates.
+//! What a journal is made of: the updates that are sent, what becomes of them, and the entries.
 #![tactic(auto)]
 
+mod act;
 mod sources;
+mod update;
 
+pub use act::{Act, Entry, Why};
 pub use sources::Sources;
+pub use update::{Cause, Outcome, Update};
 
 #[cfg(test)]
 mod tests;

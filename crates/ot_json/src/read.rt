@@ -1,6 +1,6 @@
 //! Reading operations from JSON values.
 ghost use Rattle.std.specs.Prelude.{◌≡◌, Ok, IfErr, IfOk, IfSome};
-ghost use Rattle.ot_json.specs.Grammar.{IsFaultOf, array_or_fault, components_or_fault, long_operation_of, operation_of, readings, total_units, unless_large};
+ghost use Rattle.ot_json.specs.Grammar.{IsWithinLimits, IsFaultOf, array_or_fault, components_or_fault, long_operation_of, operation_of, readings, total_units, unless_large};
 ghost use Rattle.ot_op.specs.Operation.{units_of};
 ghost use Rattle.serde_json.specs.Find.{as_array};
 ghost use Rattle.serde_json.specs.View.{items_view, view};
@@ -30,6 +30,7 @@ const MAX_UNITS: u64 = 65_536;
 /// 65,536 UTF-16 code units in their texts, those of comments too.
 pub fn read_op(alloc: Global, value: &Value) -> Result<Op, OpFault>
     ensures ok { IfOk result (λ op. operation_of (view value.now) ≡ Ok op) }
+    ensures within { IfOk result (λ op. IsWithinLimits op) }
     ensures fault { IfErr result (λ fault. IsFaultOf (operation_of (view value.now)) fault) }
 {
     let op = read_array(alloc, Grammar::Sent, value)?;

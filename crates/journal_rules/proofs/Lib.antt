@@ -1,0 +1,6 @@
+pub mod Pushing
+pub mod Legality
+pub mod Rising
+pub mod Waits
+pub mod Unmade
+pub mod Replaying

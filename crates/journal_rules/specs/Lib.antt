@@ -1,0 +1,4 @@
+pub mod Folds
+pub mod Documents
+pub mod Deciding
+pub mod Legal

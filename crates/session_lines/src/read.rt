@@ -1,0 +1,164 @@
+//! Reading a script line by line.
+
+ghost use Rattle.std.specs.Prelude.{◌≡◌, ◌≢◌, ◌≤◌, ◌^◌, ◌<◌, [], length, Ok, Err, Some, None, IfOk, IfErr, OnOk, option_map};
+ghost use Rattle.serde_json.specs.View.{view};
+ghost use Rattle.session_lines.specs.Standing.{AreStanding};
+ghost use Rattle.session_lines.specs.Script.{by_command, by_session, next_script, script, script_of, with_line, with_value};
+
+use crate::action_line::read_action_line;
+use crate::command::{Action, Command, read_command};
+use crate::doc_line::read_doc;
+use crate::earlier::Earlier;
+use crate::fault::ScriptFault;
+use crate::fields::name_of;
+use crate::keys::count_line_keys;
+use crate::line::Line;
+use crate::names::Names;
+use crate::script::Script;
+use json_lines::{count_keys, first_line, read_value, text_of};
+use serde_json::Value;
+use std::alloc::{AllocError, Global};
+
+/// The greatest number of sessions.
+const MAX_SESSIONS: usize = 256;
+
+/// The script that a text is, or its first bad line.
+///
+/// Lines are cut at U+000A, and one at the end opens no further line. The fault names the first line
+/// that can't stand where it does, numbered from 1.
+pub fn read_script(alloc: Global, bytes: &[u8]) -> Result<Script, ScriptFault>
+    ensures ok { IfOk result (λ read. script_of bytes.now ≡ Ok read) }
+    ensures standing { IfOk result (λ read. AreStanding [] read.lines) }
+    ensures short { IfOk result (λ read. length read.lines ≤ length bytes.now) }
+    ensures fault { IfErr result (λ e. e ≢ ScriptFault.Memory → script_of bytes.now ≡ Err e) }
+{
+    read_lines(alloc, bytes)
+}
+
+fn read_lines(alloc: Global, bytes: &[u8]) -> Result<Script, ScriptFault>
+    ensures ok { IfOk result (λ read. script_of bytes.now ≡ Ok read) }
+    ensures fault { IfErr result (λ e. e ≢ ScriptFault.Memory → script_of bytes.now ≡ Err e) }
+{
+    let mut names = Names::new(alloc);
+    let mut earlier = Earlier::new(alloc);
+    let mut rest = bytes;
+    let mut n = 1u64;
+    'lines: while !rest.is_empty() {
+        let (line, behind) = first_line(rest);
+        earlier = read_line(alloc, n, &mut names, earlier, line)?;
+        rest = behind;
+        n += 1;
+    }
+    Ok(Script {
+        lines: earlier.into_lines(),
+        sessions: names.len() as u32,
+        names,
+    })
+}
+
+// The lines with the one of number n. At most 256 names stay within bounds.
+fn read_line(
+    alloc: Global,
+    n: u64,
+    names: &mut Names,
+    earlier: Earlier,
+    line: &[u8],
+) -> Result<Earlier, ScriptFault>
+    requires { length names.old ≤ 256 }
+    ensures ok { IfOk result (λ more. next_script n (script earlier names.old) line.now ≡ Ok (script more names.new)) }
+    ensures few { OnOk result (length names.new ≤ 256) }
+    ensures fault { IfErr result (λ e. e ≢ ScriptFault.Memory → next_script n (script earlier names.old) line.now ≡ Err e) }
+{
+    match read_value(alloc, line) {
+        Ok(Some(value)) => read_command_line(alloc, n, names, earlier, &value),
+        Ok(None) => Err(ScriptFault::Json(n)),
+        Err(_) => Err(ScriptFault::Memory),
+    }
+}
+
+fn read_command_line(
+    alloc: Global,
+    n: u64,
+    names: &mut Names,
+    earlier: Earlier,
+    value: &Value,
+) -> Result<Earlier, ScriptFault>
+    requires { length names.old ≤ 256 }
+    ensures ok { IfOk result (λ more. with_value n (script earlier names.old) (Some (view value.now)) ≡ Ok (script more names.new)) }
+    ensures few { OnOk result (length names.new ≤ 256) }
+    ensures fault { IfErr result (λ e. e ≢ ScriptFault.Memory → with_value n (script earlier names.old) (Some (view value.now)) ≡ Err e) }
+{
+    let Some(name) = text_of(value, "do") else {
+        return Err(ScriptFault::Form(n));
+    };
+    let Some(command) = read_command(name) else {
+        return Err(ScriptFault::Unknown(n));
+    };
+    if count_keys(value) != count_line_keys(command, value) {
+        return Err(ScriptFault::Form(n));
+    }
+    match read_fields(alloc, command, names, earlier, value) {
+        Ok(Some(more)) => Ok(more),
+        Ok(None) => Err(ScriptFault::Form(n)),
+        Err(_) => Err(ScriptFault::Memory),
+    }
+}
+
+fn read_fields(
+    alloc: Global,
+    command: Command,
+    names: &mut Names,
+    earlier: Earlier,
+    value: &Value,
+) -> Result<Option<Earlier>, AllocError>
+    requires { length names.old ≤ 256 }
+    ensures value { IfOk result (λ read. option_map (λ more. script more names.new) read ≡ by_command earlier names.old command (view value.now)) }
+    ensures few { IfOk result (λ read. read ≢ None → length names.new ≤ 256) }
+{
+    match command {
+        Command::Doc => match read_doc(alloc, value)? {
+            Some(line) => with(alloc, names, earlier, line),
+            None => Ok(None),
+        },
+        Command::BySession(action) => read_action(alloc, action, names, earlier, value),
+    }
+}
+
+fn read_action(
+    alloc: Global,
+    action: Action,
+    names: &mut Names,
+    earlier: Earlier,
+    value: &Value,
+) -> Result<Option<Earlier>, AllocError>
+    ensures value { IfOk result (λ read. option_map (λ more. script more names.new) read ≡ by_command earlier names.old (Command.BySession action) (view value.now)) }
+    ensures few { IfOk result (λ read. read ≢ None → length names.new ≤ 256) }
+{
+    let Some(name) = name_of(alloc, value, "as")? else {
+        return Ok(None);
+    };
+    let session = names.insert(name)?;
+    if names.len() > MAX_SESSIONS {
+        return Ok(None);
+    }
+    let Some(line) = read_action_line(alloc, action, session as u32, value)? else {
+        return Ok(None);
+    };
+    with(alloc, names, earlier, line)
+}
+
+// The lines with one more, where it may stand behind them.
+fn with(
+    alloc: Global,
+    names: &Names,
+    earlier: Earlier,
+    line: Line,
+) -> Result<Option<Earlier>, AllocError>
+    ensures { IfOk result (λ read. option_map (λ more. script more names.now) read ≡ with_line earlier names.now line) }
+{
+    if !earlier.takes(&line) {
+        return Ok(None);
+    }
+    let more = earlier.with(alloc, line)?;
+    Ok(Some(more))
+}

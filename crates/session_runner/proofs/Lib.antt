@@ -1,0 +1,9 @@
+pub mod TakingBack
+pub mod Lists
+pub mod Keeping
+pub mod Doing
+pub mod Plain
+pub mod Writing
+pub mod Words
+pub mod Fitting
+pub mod Completing

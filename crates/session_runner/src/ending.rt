@@ -1,0 +1,173 @@
+//! How a run ends: by faulty words, a failed read, too long an input, a faulty line, want of memory, or a journal to report.
+
+ghost use Rattle.std.specs.Prelude.{◌≡◌, ◌≤◌, ◌<◌, ◌↔◌, ◌++◌, [], codes, length, position, not, IsTrue, IfOk, IfSome, OnOk, Some, string_bytes};
+ghost use Rattle.std.specs.Fmt.{decimal};
+ghost use Rattle.session_lines.specs.Script.{script_of};
+ghost use Rattle.session_runner.specs.Desk.{IsKept};
+ghost use Rattle.session_runner.specs.Ending.{AreRun, EndsAs, Explains, IsTextTold, IsTold, KeepsDesk, fault_in, fault_text, first_unbuilt as first_unbuilt_lem, line_text};
+ghost use Rattle.session_runner.specs.Script.{AreBuilt, AreFit, Follows, is_built as is_built_lem};
+
+use crate::desk::Desk;
+use crate::lines::do_lines;
+use crate::report::{WriteFault, write_report};
+use session_lines::{Line, ScriptFault, read_script};
+use source_sink::{ReadFault, Sink, Source, read_all, write_all};
+use std::alloc::{AllocError, Global};
+
+/// The first line of an input that can't be done, numbered from 1.
+#[derive(Clone, Copy, Drop)]
+pub(crate) enum LineFault {
+    /// It is no JSON value.
+    Json(u64),
+    /// It isn't of the form of its command.
+    Form(u64),
+    /// It names no command.
+    Unknown(u64),
+    /// Its command isn't built yet.
+    Unbuilt(u64),
+}
+
+/// How a run ends before anything is written.
+#[derive(Drop)]
+pub(crate) enum Ending {
+    Words,
+    Read,
+    Long,
+    Memory,
+    Script(LineFault),
+    Done(Desk),
+}
+
+/// Reads the input, where the words are in form, and does its lines.
+pub(crate) fn prepare<S: Source>(alloc: Global, words: &[String], input: &mut S) -> Ending
+    ensures { Explains words.now (S.left input.old) (S.left input.new) (S.count input.old) (S.count input.new) result }
+{
+    if !are_run(words) {
+        return Ending::Words;
+    }
+    match read_all(alloc, input) {
+        Ok(bytes) => ending_of(alloc, &bytes),
+        Err(ReadFault::Failed) => Ending::Read,
+        Err(ReadFault::TooLong) => Ending::Long,
+        Err(ReadFault::Memory) => Ending::Memory,
+    }
+}
+
+// Whether the words are the one word `run`.
+fn are_run(words: &[String]) -> bool
+    ensures { IsTrue result ↔ AreRun words.now }
+{
+    match words {
+        [word] => word.as_str() == "run",
+        _ => false,
+    }
+}
+
+fn ending_of(alloc: Global, bytes: &[u8]) -> Ending
+    requires { length bytes.now ≤ 16777216 }
+    ensures { EndsAs bytes.now result }
+{
+    let script = match read_script(alloc, bytes) {
+        Ok(script) => script,
+        Err(ScriptFault::Json(n)) => return Ending::Script(LineFault::Json(n)),
+        Err(ScriptFault::Form(n)) => return Ending::Script(LineFault::Form(n)),
+        Err(ScriptFault::Unknown(n)) => return Ending::Script(LineFault::Unknown(n)),
+        Err(ScriptFault::Memory) => return Ending::Memory,
+    };
+    if let Some(n) = first_unbuilt(script.lines.as_slice()) {
+        return Ending::Script(LineFault::Unbuilt(n));
+    }
+    match run_lines(alloc, script.lines.into_vec()) {
+        Ok(desk) => Ending::Done(desk),
+        Err(_) => Ending::Memory,
+    }
+}
+
+// The first line of a command that isn't built, from 1.
+fn first_unbuilt(lines: &[Line]) -> Option<u64>
+    ensures { result ≡ first_unbuilt_lem lines.now }
+{
+    match unbuilt_place(lines) {
+        Some(before) => Some(before as u64 + 1),
+        None => None,
+    }
+}
+
+fn unbuilt_place(lines: &[Line]) -> Option<usize>
+    ensures place { result ≡ position (λ l. not (is_built_lem l)) lines.now }
+    ensures within { IfSome result (λ k. k < length lines.now) }
+{
+    lines.iter().position(|line| !is_built(line))
+}
+
+fn is_built(line: &Line) -> bool
+    ensures { result ≡ is_built_lem line.now }
+{
+    matches!(line, Line::Doc { .. } | Line::Raw { .. })
+}
+
+fn run_lines(alloc: Global, lines: Vec<Line>) -> Result<Desk, AllocError>
+    requires fit { AreFit [] lines.items }
+    requires built { AreBuilt lines.items }
+    requires few { length lines.items ≤ 16777216 }
+    ensures kept { IfOk result (λ desk. IsKept desk) }
+    ensures follows { IfOk result (λ desk. Follows lines.items desk.journal.items) }
+{
+    let mut desk = do_lines(alloc, lines)?;
+    desk.settle_all(alloc)?;
+    Ok(desk)
+}
+
+/// Writes what the ending says, and gives the status.
+pub(crate) fn tell<W: Sink>(alloc: Global, out: &mut W, ending: &Ending) -> u8
+    requires { KeepsDesk ending.now }
+    ensures { IsTold (W.written out.old) (W.written out.new) (W.count out.old) (W.count out.new) ending.now result }
+{
+    match ending {
+        Ending::Words => tell_text(out, 2, b"fault: words\n"),
+        Ending::Read => tell_text(out, 5, b"fault: read\n"),
+        Ending::Long => tell_text(out, 8, b"fault: input longer than 16777216\n"),
+        Ending::Memory => 4,
+        Ending::Script(fault) => match text_of_fault(alloc, *fault) {
+            Ok(text) => tell_text(out, 3, text.as_bytes()),
+            Err(_) => 4,
+        },
+        Ending::Done(desk) => match write_report(alloc, desk, out) {
+            Ok(()) => 0,
+            Err(WriteFault::Failed) => 6,
+            Err(WriteFault::Memory) => 4,
+        },
+    }
+}
+
+// Writes a text and gives its status, or 6 where the sink failed.
+fn tell_text<W: Sink>(out: &mut W, status: u8, text: &[u8]) -> u8
+    ensures { IsTextTold (W.written out.old) (W.written out.new) (W.count out.old) (W.count out.new) status text.now result }
+{
+    match write_all(out, text) {
+        Ok(()) => status,
+        Err(_) => 6,
+    }
+}
+
+fn text_of_fault(alloc: Global, fault: LineFault) -> Result<String, AllocError>
+    ensures { IfOk result (λ text. string_bytes text ≡ fault_text fault) }
+{
+    match fault {
+        LineFault::Json(n) => text_of_line(alloc, n, "json"),
+        LineFault::Form(n) => text_of_line(alloc, n, "form"),
+        LineFault::Unknown(n) => text_of_line(alloc, n, "unknown"),
+        LineFault::Unbuilt(n) => text_of_line(alloc, n, "unbuilt"),
+    }
+}
+
+fn text_of_line(alloc: Global, n: u64, kind: &str) -> Result<String, AllocError>
+    ensures { IfOk result (λ text. string_bytes text ≡ line_text n kind.now) }
+{
+    let mut text = String::from_str(alloc, "fault: line ")?;
+    text.push_str(n.to_string(alloc)?.as_str())?;
+    text.push_str(" ")?;
+    text.push_str(kind)?;
+    text.push_str("\n")?;
+    Ok(text)
+}

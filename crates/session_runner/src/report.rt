@@ -1,0 +1,147 @@
+//! The report of a journal: a line for each entry, and then a line for each document.
+
+ghost use Rattle.std.specs.Prelude.{◌≡◌, ◌++◌, ℕ, List, Option, length, IfOk};
+ghost use Rattle.json_lines.specs.Object.{line_of};
+ghost use Rattle.source_sink.specs.Buffered.{Delivered};
+ghost use Rattle.source_sink.specs.Causes.{HasCauseOf};
+ghost use Rattle.source_sink.specs.Outside.{Wrote};
+ghost use Rattle.session_runner.specs.Desk.{AreDocuments, IsKept};
+ghost use Rattle.session_runner.specs.Report.{document_lines, document_members, entry_lines, report_of};
+ghost use Rattle.session_runner.specs.Writing.{Pushed};
+ghost use Rattle.journal_entries.specs.declared.act.Entry.{Entry};
+
+use crate::desk::Desk;
+use crate::document::Document;
+use crate::entry_line::entry_line;
+use journal_entries::Entry;
+use json_lines::Object;
+use serde_json::Value;
+use source_sink::{Failed, Sink, WriteBuffer};
+use std::alloc::{AllocError, Global};
+
+/// Why a report was not written whole.
+#[derive(Clone, Copy, Drop)]
+pub(crate) enum WriteFault {
+    Failed,
+    Memory,
+}
+
+impl From<Failed> for WriteFault {
+    ghost use Rattle.session_runner.specs.declared.report.WriteFault.TheVariants.{Failed as SinkFailed};
+
+    ghost from_gives = { λ _ fault. fault ≡ SinkFailed };
+
+    fn from(_: Failed) -> WriteFault {
+        WriteFault::Failed
+    }
+}
+
+impl From<AllocError> for WriteFault {
+    ghost use Rattle.session_runner.specs.declared.report.WriteFault.TheVariants.{Memory as NoMemory};
+
+    ghost from_gives = { λ _ fault. fault ≡ NoMemory };
+
+    fn from(_: AllocError) -> WriteFault {
+        WriteFault::Memory
+    }
+}
+
+/// Writes the report line by line. Its memory doesn't grow with the report.
+pub(crate) fn write_report<W: Sink>(
+    alloc: Global,
+    desk: &Desk,
+    out: &mut W,
+) -> Result<(), WriteFault>
+    requires { IsKept desk.now }
+    ensures wrote { Wrote (W.written out.old) (W.written out.new) (report_of desk.now.journal.items) result }
+    ensures cause { HasCauseOf (W.count out.old) (W.count out.new) result WriteFault.Failed }
+{
+    let mut buffer = WriteBuffer::new(alloc)?;
+    write_lines(alloc, desk, &mut buffer, out)?;
+    buffer.flush(out)?;
+    Ok(())
+}
+
+fn write_lines<W: Sink>(
+    alloc: Global,
+    desk: &Desk,
+    buffer: &mut WriteBuffer,
+    out: &mut W,
+) -> Result<(), WriteFault>
+    requires { IsKept desk.now }
+    ensures pushed { (start : Option (List ℕ)) (text : List ℕ) → Delivered start (W.written out.old) buffer.old text
+        → Pushed start (W.written out.new) buffer.new (text ++ report_of desk.now.journal.items) result }
+    ensures cause { HasCauseOf (W.count out.old) (W.count out.new) result WriteFault.Failed }
+{
+    write_entries(alloc, &desk.journal, buffer, out)?;
+    write_documents(alloc, desk, buffer, out)
+}
+
+fn write_entries<W: Sink>(
+    alloc: Global,
+    journal: &[Entry],
+    buffer: &mut WriteBuffer,
+    out: &mut W,
+) -> Result<(), WriteFault>
+    ensures pushed { (start : Option (List ℕ)) (text : List ℕ) → Delivered start (W.written out.old) buffer.old text
+        → Pushed start (W.written out.new) buffer.new (text ++ entry_lines 0 journal.now) result }
+    ensures cause { HasCauseOf (W.count out.old) (W.count out.new) result WriteFault.Failed }
+{
+    for (n, entry) in journal.iter().enumerate() {
+        write_line(entry_line(alloc, n as u64, entry), buffer, out)?;
+    }
+    Ok(())
+}
+
+fn write_documents<W: Sink>(
+    alloc: Global,
+    desk: &Desk,
+    buffer: &mut WriteBuffer,
+    out: &mut W,
+) -> Result<(), WriteFault>
+    requires { IsKept desk.now }
+    ensures pushed { (start : Option (List ℕ)) (text : List ℕ) → Delivered start (W.written out.old) buffer.old text
+        → Pushed start (W.written out.new) buffer.new (text ++ document_lines (length desk.now.documents.items) desk.now.journal.items) result }
+    ensures cause { HasCauseOf (W.count out.old) (W.count out.new) result WriteFault.Failed }
+{
+    for (doc, document) in desk.documents.iter().enumerate() {
+        write_line(document_line(alloc, doc as u64, document), buffer, out)?;
+    }
+    Ok(())
+}
+
+fn write_line<W: Sink>(
+    line: Result<Vec<u8>, AllocError>,
+    buffer: &mut WriteBuffer,
+    out: &mut W,
+) -> Result<(), WriteFault>
+    ensures pushed { (start : Option (List ℕ)) (text bytes : List ℕ) → IfOk line (λ made. made.items ≡ bytes) → Delivered start (W.written out.old) buffer.old text
+        → Pushed start (W.written out.new) buffer.new (text ++ bytes) result }
+    ensures cause { HasCauseOf (W.count out.old) (W.count out.new) result WriteFault.Failed }
+{
+    match line {
+        Ok(line) => match buffer.push(out, &line) {
+            Ok(()) => Ok(()),
+            Err(_) => Err(WriteFault::Failed),
+        },
+        Err(_) => Err(WriteFault::Memory),
+    }
+}
+
+// The line of a document at the end, under its number.
+fn document_line(alloc: Global, doc: u64, document: &Document) -> Result<Vec<u8>, AllocError>
+    ensures { IfOk result (λ bytes. bytes.items ≡ line_of (document_members doc document.now.name document.now.text document.now.version)) }
+{
+    let text = document.text.to_text(alloc)?;
+    let mut object = Object::new(alloc);
+    object.set_number("b", 0)?;
+    object.set("changes", Value::Array(Vec::new(alloc)))?;
+    object.set("comments", Value::Array(Vec::new(alloc)))?;
+    object.set_number("doc", doc)?;
+    object.set_text("e", "doc")?;
+    object.set_null("kept")?;
+    object.set_text("name", document.name.as_str())?;
+    object.set_text("text", text.as_str())?;
+    object.set_number("v", document.version)?;
+    object.line()
+}
