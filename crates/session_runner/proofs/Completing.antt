@@ -1,14 +1,15 @@
 -- What a run comes to where only memory may be wanting.
-use Rattle.std.proofs.Common.{◌≡◌, ◌⊎◌, inl, inr, ℕ, ◌<◌, ◌≤◌, List, ◌++◌, length, String, sym, ap, ◌∙◌, subst, arith, append-nil, length-append}
+use Rattle.std.proofs.Common.{◌≡◌, ◌⊎◌, inl, inr, ℕ, ◌<◌, ◌≤◌, List, [], ◌∷◌, ◌++◌, length, take, String, refl, sym, ap, ◌∙◌, subst, arith, append-nil, length-append}
 use Rattle.std.specs.Prelude.{Option, Some, None}
 use Rattle.std.specs.declared.alloc.Global.{Global}
 use Rattle.std.specs.Io.KnownBytes.{Consumes, Appends, IsAtEnd}
+use Rattle.source_sink.specs.Causes.{Rose}
 use Rattle.source_sink.specs.declared.read.TheConstants.{INPUT_LIMIT}
 use Rattle.session_runner.specs.declared.ending.Ending.{Ending}
 use Rattle.session_runner.specs.declared.ending.Ending.TheVariants as ending
 use Rattle.session_runner.specs.declared.ending.LineFault.{LineFault}
 use Rattle.session_runner.specs.Ending.{Explains, IsPart, IsTold, IsTextTold, WasWhole, line_fault, status_of, text_of}
-use Rattle.session_runner.specs.Run.{Completes, IsQuietRun}
+use Rattle.session_runner.specs.Run.{Completes, IsCutShort, IsQuietRun, IsToWrite}
 use Rattle.session_runner.proofs.Lists.{same_item}
 
 -- a text that was told as an ending's own
@@ -70,3 +71,39 @@ completes words left rest written new sc sn wc wn end status why told = record {
   no_script = λ input quiet short fault named. told_by words left rest sc sn wc wn status input quiet written new end 3 told (λ is. fault_by words left rest sc sn wc wn status input quiet end why is short fault named);
   too_long = λ input quiet long. told_by words left rest sc sn wc wn status input quiet written new end 8 told (λ is. long_by words left rest sc sn wc wn status input quiet end why is long);
 }
+
+-- ---- a text that was cut short
+
+to_write : (words : List (String Global)) (left rest : Option (List ℕ)) (sc sn : ℕ) (end : Ending) → Explains words left rest sc sn end → IsToWrite words left rest sc sn (text_of end)
+to_write words left rest sc sn ending.Words why = inl (why.0, refl)
+to_write words left rest sc sn ending.Read why = inr (inl (why.0, why.1, refl))
+to_write words left rest sc sn ending.Long why = inr (inr (inl (why.0, why.1, refl)))
+to_write words left rest sc sn ending.Memory why = inr (inr (inr (inr (inr refl))))
+to_write words left rest sc sn (ending.Script fault) why = inr (inr (inr (inl (why.0, (why.1.0, fault, why.1.1, why.1.2, refl)))))
+to_write words left rest sc sn (ending.Done desk) why = inr (inr (inr (inr (inl (why.0, (why.1.0, desk.journal.items, why.1.1, why.1.2, refl))))))
+
+-- no ending has the status of a sink that failed, and the one of want of memory writes nothing
+own_six : (end : Ending) (n : ℕ) → n ≡ status_of end → n ≡ 6 → ⊥
+own_six ending.Words n is six = omega (arith, is, six)
+own_six ending.Read n is six = omega (arith, is, six)
+own_six ending.Long n is six = omega (arith, is, six)
+own_six ending.Memory n is six = omega (arith, is, six)
+own_six (ending.Script fault) n is six = omega (arith, is, six)
+own_six (ending.Done desk) n is six = omega (arith, is, six)
+
+whole_part : (written new : Option (List ℕ)) (text : List ℕ) → Appends written new text → IsPart written new text
+whole_part written new text a = (length text, omega arith, subst (λ l. Appends written new l) (sym (take_all text)) a)
+  where
+    take_all : (l : List ℕ) → take (length l) l ≡ l
+    take_all [] = refl
+    take_all (x ∷ xs) = ap (λ l. x ∷ l) (take_all xs)
+
+pub cut_short : (words : List (String Global)) (left rest written new : Option (List ℕ)) (sc sn wc wn : ℕ) (end : Ending) (status : ℕ) → Explains words left rest sc sn end → IsTold written new wc wn end status → status ≡ 6 → Rose wc wn × IsCutShort words left rest sc sn written new
+cut_short words left rest written new sc sn wc wn end status why (inl t) six = absurd (own_six end status t.0 six)
+cut_short words left rest written new sc sn wc wn end status why (inr (inl t)) six = (t.1, (text_of end, to_write words left rest sc sn end why, t.2))
+cut_short words left rest written new sc sn wc wn end status why (inr (inr t)) six = let four = t.0 in absurd (omega (arith, four, six))
+
+pub memory_wanting : (words : List (String Global)) (left rest written new : Option (List ℕ)) (sc sn wc wn : ℕ) (end : Ending) (status : ℕ) → Explains words left rest sc sn end → IsTold written new wc wn end status → status ≡ 4 → IsCutShort words left rest sc sn written new
+memory_wanting words left rest written new sc sn wc wn end status why (inl t) four = (text_of end, to_write words left rest sc sn end why, whole_part written new (text_of end) t.1)
+memory_wanting words left rest written new sc sn wc wn end status why (inr (inl t)) four = let six = t.0 in absurd (omega (arith, six, four))
+memory_wanting words left rest written new sc sn wc wn end status why (inr (inr t)) four = (text_of end, to_write words left rest sc sn end why, t.1)
