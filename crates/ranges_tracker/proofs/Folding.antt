@@ -1,0 +1,54 @@
+-- The steps of an operation, as they are shown.
+use Rattle.std.proofs.Common.{◌≡◌, ℕ, ◌+◌, ◌≤◌, Bool, true, false, List, [], ◌∷◌, refl, ap, ap₂, sym, ◌∙◌, length, Option, Some, None, subst}
+use Rattle.std.specs.Prelude.{nat_le, if◌then◌else◌}
+use Rattle.std.specs.Option.{option_and_then}
+use Rattle.ot_units.specs.Text.{put_at, cut_at}
+use Rattle.ot_op.specs.Apply.{applied, applied_all, stands}
+use Rattle.ot_op.specs.declared.comp.Comp.{Comp}
+use Rattle.ot_op.specs.declared.comp.Comp.TheVariants.{Ins, Del, Com}
+use Rattle.ranges_tracker.specs.Cells.{Stamp, Row, Stepped, chosen, torn, mark_at, mark_before, text_of, step, steps}
+use Rattle.ranges_tracker.specs.declared.change.Change.{Change}
+use Rattle.ranges_tracker.specs.declared.comment.Comment.{Comment}
+use Rattle.ranges_tracker.specs.Shown.{shown}
+use Rattle.ranges_tracker.specs.Tracked.{changes_in}
+use Rattle.ranges_tracker.specs.Ready.{Ready, Ranged, ranges_in, ranges_all}
+use Rattle.ranges_tracker.specs.Steady.{Steady, IsStepsOf}
+use Rattle.ranges_tracker.proofs.Stepping.{if_some, text_inserted, text_deleted, Same, step_is}
+use Rattle.ranges_tracker.proofs.Keeping.{steady_ready, keep_step}
+
+-- the live cells after a step are the text after the component
+pub text_step : (row : Row) (comp : Comp) (stamp : Stamp) (k : ℕ) (next : List ℕ) → applied (text_of row.lives) comp ≡ Some next → text_of (step row comp stamp k).row.lives ≡ next
+text_step row (Ins at part) stamp k next e =
+    let by = chosen (mark_before row.lives at) (mark_at row.lives at) stamp k in
+    text_inserted row.lives at part by.mark (torn (mark_before row.lives at) (mark_at row.lives at) by.mark) stamp (k + by.fresh) ∙ (if_some (nat_le at (length (text_of row.lives))) (put_at (text_of row.lives) at part) next e).1
+text_step row (Del at part) stamp k next e = text_deleted row.lives at (length part) ∙ (if_some (stands (text_of row.lives) at part) (cut_at (text_of row.lives) at (length part)) next e).1
+text_step row (Com at part thread) stamp k next e = (if_some (stands (text_of row.lives) at part) (text_of row.lives) next e).1
+
+abbrev pub shown_steps : Stepped → Ranged
+shown_steps s = record { ranges = shown s.row; marks = s.marks }
+
+-- the first component applies, and the others to what it makes
+pub record First (text : List ℕ) (c : Comp) (cs : List Comp) (next : List ℕ) : Type 0 where
+  pub mid : List ℕ
+  pub here : applied text c ≡ Some mid
+  pub rest : applied_all mid cs ≡ Some next
+
+pub first_of_all : (text : List ℕ) (c : Comp) (cs : List Comp) (next : List ℕ) → applied_all text (c ∷ cs) ≡ Some next → First text c cs next
+first_of_all text c cs next e = go (applied text c) refl e
+  where
+    go : (o : Option (List ℕ)) → applied text c ≡ o → option_and_then (λ x. applied_all x cs) o ≡ Some next → First text c cs next
+    go None is h = cc
+    go (Some mid) is h = record { mid = mid; here = is; rest = h }
+
+pub steps_are : (cs : List Comp) (row : Row) (stamp : Stamp) (k : ℕ) (next : List ℕ) → Steady row stamp k → applied_all (text_of row.lives) cs ≡ Some next → ranges_all (shown row) cs stamp k ≡ shown_steps (steps row cs stamp k)
+steps_are [] row stamp k next s e = refl
+steps_are (c ∷ cs) row stamp k next s e =
+    let f : First (text_of row.lives) c cs next = first_of_all (text_of row.lives) c cs next e in
+    let same : Same row c stamp k = step_is row c stamp k f.mid (steady_ready row stamp k s) f.here in
+    let text : text_of (step row c stamp k).row.lives ≡ f.mid = text_step row c stamp k f.mid f.here in
+    ap₂ (λ (r : List Change × List Comment) (n : ℕ). ranges_all r cs stamp n) (sym same.ranges) (sym same.marks)
+    ∙ steps_are cs (step row c stamp k).row stamp (step row c stamp k).marks next (keep_step row c stamp k f.mid s f.here) (ap (λ (t : List ℕ). applied_all t cs) text ∙ f.rest)
+
+-- the same of ranges that a row shows
+pub ranges_steps : (ranges : List Change × List Comment) (cs : List Comp) (stamp : Stamp) → IsStepsOf ranges cs stamp (ranges_all ranges cs stamp 0).ranges
+ranges_steps ranges cs stamp row text s is e = sym (ap (λ (r : Ranged). r.ranges) (steps_are cs row stamp 0 text s e)) ∙ ap (λ (r : List Change × List Comment). (ranges_all r cs stamp 0).ranges) is

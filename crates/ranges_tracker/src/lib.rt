@@ -1,0 +1,28 @@
+//! Tracked changes and comments of a document, after Overleaf's document-updater: what an update makes
+//! of them. They are shown from cells in a row (`specs/Cells.antt`), and what is done here is proved
+//! to be what is shown of the cells after the update.
+#![tactic(auto)]
+
+mod change;
+mod changes;
+mod comment;
+mod comments;
+mod covers;
+mod deletes;
+mod inserts;
+mod kinds;
+mod mark;
+mod mixing;
+mod ranges;
+mod runs;
+mod stamp;
+#[cfg(test)]
+mod tests;
+mod texts;
+mod tracking;
+
+pub use change::{Change, ChangeKind};
+pub use comment::Comment;
+pub use ranges::Ranges;
+pub use stamp::Stamp;
+pub use tracking::{track, track_op};
