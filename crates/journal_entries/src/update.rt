@@ -28,14 +28,22 @@ pub struct Update {
 }
 
 /// Why an update was refused.
-#[derive(Debug, Drop)]
+#[derive(Clone, Copy, Debug, PartialEq, Eq, Drop)]
 pub enum Cause {
     /// It is for a version above the document's, which is `have`.
     Future { have: u64 },
-    /// It is for a version below the document's, which is `have`. Such updates wait for the transformation of operations.
-    OlderNotBuilt { have: u64 },
-    /// Its operation doesn't apply to the document's text.
+    /// It is for a version below the document's first, or more than 100 below its present one,
+    /// which is `have`.
+    TooOld { have: u64 },
+    /// Its operation doesn't apply to the document's text, or can't be moved past what was applied
+    /// since.
     Mismatch,
+    /// It would make the document's text longer than 2,097,152 UTF-16 code units: this long.
+    TooLong { len: u64 },
+    /// The document couldn't be loaded.
+    StoreFault,
+    /// Memory was wanting.
+    Memory,
 }
 
 /// What became of an update.
@@ -43,5 +51,7 @@ pub enum Cause {
 pub enum Outcome {
     /// It was applied as `op` to version `v`, which made the next version.
     Applied { v: u64, op: Op },
+    /// It was applied before, to version `v`, and is acknowledged again.
+    Dup { v: u64 },
     Refused(Cause),
 }
