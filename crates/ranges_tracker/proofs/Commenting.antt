@@ -1,9 +1,9 @@
 -- The shown comments after a component.
-use Rattle.std.proofs.Common.{◌≡◌, ℕ, zero, suc, ◌+◌, ◌-◌, ◌<◌, ◌≤◌, Bool, true, false, List, [], ◌∷◌, ◌++◌, refl, ap, ap₂, sym, ◌∙◌, length, arith, append_assoc, append-nil, length-append, map, take, drop, ⊎_elim, take-append-drop}
+use Rattle.std.proofs.Common.{◌≡◌, ℕ, ◌+◌, ◌-◌, ◌<◌, ◌≤◌, Bool, true, false, List, [], ◌∷◌, ◌++◌, refl, ap, ap₂, sym, ◌∙◌, length, arith, append_assoc, append-nil, length-append, take, drop, ⊎_elim, take-append-drop}
 use Rattle.std.specs.Prelude.{nat_le, nat_lt, ◌||◌, if◌then◌else◌}
 use Rattle.std.proofs.lemmas.Bool.{cases_lt, lt-ltb, le-ltb, le-leb, lt-leb}
-use Rattle.std.proofs.lemmas.List.{length-take-le, take_all, drop_all, drop-drop}
-use Rattle.std.proofs.Math.Seq.{take-append_seam, drop-append_seam, drop-append-add}
+use Rattle.std.proofs.lemmas.List.{length-take-le, take_all, drop_all}
+use Rattle.std.proofs.Math.Seq.{take-append_seam, drop-append_seam}
 use Rattle.ot_units.specs.Text.{put_at, cut_at}
 use Rattle.ranges_tracker.specs.Cells.{Thread, raised, squashed}
 use Rattle.ranges_tracker.specs.declared.comment.Comment.{Comment}
@@ -24,7 +24,7 @@ nested (x ∷ xs) back (y ∷ ys) rest e h =
     let n : Nested ys xs back rest = nested xs back ys rest tails (omega arith) in
     record { mid = n.mid; long_is = ap₂ (λ (a : ℕ) (r : List ℕ). a ∷ r) (sym same) n.long_is; back_is = n.back_is }
 
-part_is : (t a w b : List ℕ) (at n : ℕ) → t ≡ a ++ (w ++ b) → at ≡ length a → n ≡ length w → take n (drop at t) ≡ w
+pub part_is : (t a w b : List ℕ) (at n : ℕ) → t ≡ a ++ (w ++ b) → at ≡ length a → n ≡ length w → take n (drop at t) ≡ w
 part_is t a w b at n e f g = ap (λ (x : List ℕ). take n (drop at x)) e ∙ ap₂ (λ (x y : ℕ). take x (drop y (a ++ (w ++ b)))) g f ∙ ap (take (length w)) (drop-append_seam a (w ++ b)) ∙ take-append_seam w b
 
 front_part : (t x y : List ℕ) (at : ℕ) → t ≡ x ++ y → at ≡ length x → take at t ≡ x
@@ -47,7 +47,7 @@ abbrev pub thread_with : ℕ → ℕ → Thread → Thread
 thread_with at n t = record { thread = t.thread; from = raised at n t.from; to = if nat_le at t.from || nat_lt at t.to then t.to + n else t.to }
 
 -- the text of a thread as three parts
-record Parts (text : List ℕ) (from to : ℕ) : Type 0 where
+pub record Parts (text : List ℕ) (from to : ℕ) : Type 0 where
   pub a : List ℕ
   pub w : List ℕ
   pub b : List ℕ
@@ -55,7 +55,7 @@ record Parts (text : List ℕ) (from to : ℕ) : Type 0 where
   pub at_is : from ≡ length a
   pub to_is : to ≡ length a + length w
 
-parts_of : (text : List ℕ) (from to : ℕ) → from ≤ to → to ≤ length text → Parts text from to
+pub parts_of : (text : List ℕ) (from to : ℕ) → from ≤ to → to ≤ length text → Parts text from to
 parts_of text from to le in_text =
     let a = take from text in
     let w = take (to - from) (drop from text) in
@@ -66,7 +66,7 @@ parts_of text from to le in_text =
     let lw : length w ≡ to - from = length-take-le (to - from) (drop from text) (omega arith) in
     record { a = a; w = w; b = b; is = sym (ap (λ (x : List ℕ). a ++ x) (take-append-drop (to - from) (drop from text)) ∙ all); at_is = sym la; to_is = omega arith }
 
-shown_is : (text : List ℕ) (t : Thread) (p : Parts text t.from t.to) → take (t.to - t.from) (drop t.from text) ≡ p.w
+pub shown_is : (text : List ℕ) (t : Thread) (p : Parts text t.from t.to) → take (t.to - t.from) (drop t.from text) ≡ p.w
 shown_is text t p = part_is text p.a p.w p.b t.from (t.to - t.from) p.is p.at_is (omega (arith, p.at_is, p.to_is))
 
 -- an insert

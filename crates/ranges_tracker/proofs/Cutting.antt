@@ -1,20 +1,15 @@
 -- The shown inserts of some live cells: how they are cut, and the mark over a unit.
-use Rattle.std.proofs.Common.{◌≡◌, ℕ, zero, suc, ◌+◌, ◌-◌, ◌<◌, ◌≤◌, Bool, true, false, List, [], ◌∷◌, ◌++◌, refl, ap, ap₂, sym, ◌∙◌, length, arith, append_assoc, append-nil, length-append, map, take, drop, Option, Some, None, ⊎_elim, ◌⊎◌, inl, inr}
-use Rattle.std.specs.Prelude.{◌&&◌, ◌==◌, nat_le, nat_lt, if◌then◌else◌}
-use Rattle.std.specs.List.{flat_map}
-use Rattle.std.proofs.lemmas.Bool.{cases_Bool, and_parts, and_left, cases_lt, lt-ltb, le-ltb, le-leb, lt-leb, eqb-true}
-use Rattle.ranges_tracker.specs.Cells.{Mark, Live, same_mark, mark_at}
+use Rattle.std.proofs.Common.{◌≡◌, ℕ, zero, suc, ◌+◌, ◌-◌, ◌<◌, ◌≤◌, Bool, true, false, List, [], ◌∷◌, ◌++◌, refl, ap, ap₂, sym, ◌∙◌, length, arith, take, drop, Option, Some, None, ⊎_elim}
+use Rattle.std.specs.Prelude.{◌&&◌, nat_le, nat_lt, if◌then◌else◌}
+use Rattle.std.proofs.lemmas.Bool.{cases_Bool, and_parts, cases_lt, lt-ltb, le-ltb, le-leb, lt-leb, eqb-true}
+use Rattle.ranges_tracker.specs.Cells.{Mark, Live, mark_at}
 use Rattle.ranges_tracker.specs.declared.change.Change.{Change}
 use Rattle.ranges_tracker.specs.declared.change.ChangeKind.{ChangeKind}
-use Rattle.ranges_tracker.specs.declared.change.ChangeKind.TheVariants.{Inserted, Deleted}
-use Rattle.ranges_tracker.specs.Shown.{change, mark_of, reach_of, reach, same_kind, meets, fused, touch, packed, live_cell, live_cells}
+use Rattle.ranges_tracker.specs.declared.change.ChangeKind.TheVariants.{Inserted}
+use Rattle.ranges_tracker.specs.Shown.{change, mark_of, meets, fused, touch, packed, live_cell, live_cells}
+pub use Rattle.ranges_tracker.specs.Ordered.{Lined}
 use Rattle.ranges_tracker.specs.Tracked.{piece, head_part, tail_part, heads, tails, mark_over}
 use Rattle.ranges_tracker.proofs.Packing.{same_mark_is, same_kind_is, touch_met, touch_apart}
-
--- inserts in order that don't overlap, from a place on
-abbrev pub Lined : ℕ → List Change → Type 0
-Lined at [] = Unit {0}
-Lined at (c ∷ cs) = (at ≤ c.at) × (0 < length c.text) × (Lined (c.at + length c.text) cs)
 
 -- one marked live cell
 abbrev pub cell : ℕ → ℕ → Mark → Change
@@ -190,7 +185,7 @@ tails_cells p at (l ∷ ls) y e =
     ∙ tails_cells p (at + 1) ls y (omega arith)
 
 -- the mark over a unit is the mark of its cell
-over_none : (i q : ℕ) (gs : List Change) → Lined q gs → i < q → mark_over i gs ≡ None
+pub over_none : (i q : ℕ) (gs : List Change) → Lined q gs → i < q → mark_over i gs ≡ None
 over_none i q [] h lt = refl
 over_none i q (c ∷ cs) h lt = rw (lt-leb c.at i (omega (arith, h.0))) (over_none i (c.at + length c.text) cs h.2 (omega (arith, h.0)))
 

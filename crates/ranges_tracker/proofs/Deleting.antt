@@ -1,19 +1,17 @@
 -- The shown deletes after a delete.
-use Rattle.std.proofs.Common.{◌≡◌, ℕ, zero, suc, ◌+◌, ◌-◌, ◌<◌, ◌≤◌, Bool, true, false, List, [], ◌∷◌, ◌++◌, refl, ap, ap₂, sym, ◌∙◌, length, arith, append_assoc, append-nil, length-append, map, take, drop, Option, Some, None, subst, ⊎_elim, ◌⊎◌, inl, inr, take-append-drop}
-use Rattle.std.specs.Prelude.{◌&&◌, ◌||◌, ◌==◌, not, is_some, nat_le, nat_lt, filter, if◌then◌else◌}
-use Rattle.std.proofs.lemmas.Bool.{cases_Bool, and_parts, cases_lt, cases_eq, eqb-true, eqb-false, eq-eqb, ne_eqb, lt-ltb, le-ltb, le-leb, lt-leb, ltb-true, ltb-false}
+use Rattle.std.proofs.Common.{◌≡◌, ℕ, ◌+◌, ◌-◌, ◌≤◌, Bool, true, false, List, [], ◌∷◌, ◌++◌, refl, ap, ap₂, sym, ◌∙◌, length, arith, append_assoc, length-append, map, take, drop, Option, subst, ⊎_elim, inl}
+use Rattle.std.specs.Prelude.{◌&&◌, ◌||◌, ◌==◌, not, is_some, nat_lt, if◌then◌else◌}
+use Rattle.std.proofs.lemmas.Bool.{cases_Bool, cases_lt, eq-eqb, lt-ltb, le-ltb}
 use Rattle.std.proofs.lemmas.Bool.Decides.{same_from_decides, Decides-like, Decides-eqb}
-use Rattle.std.proofs.lemmas.List.{length-take-le}
-use Rattle.ranges_tracker.specs.Cells.{Mark, Live, Gone, Stamp, Row, same_mark, mark_at, text_of, units_in, unmarked, mixed, some_unmarked, gone_at, shifted, raised, squashed, fresh_mark, deleted}
+use Rattle.ranges_tracker.specs.Cells.{Mark, Live, Gone, Stamp, Row, mark_at, text_of, units_in, mixed, some_unmarked, gone_at, shifted, squashed, fresh_mark, deleted}
 use Rattle.ranges_tracker.specs.declared.change.Change.{Change}
-use Rattle.ranges_tracker.specs.declared.change.ChangeKind.{ChangeKind}
-use Rattle.ranges_tracker.specs.declared.change.ChangeKind.TheVariants.{Inserted, Deleted}
-use Rattle.ranges_tracker.specs.Shown.{change, mark_of, same_kind, meets, fused, touch, packed, live_cells, gone_cells}
-use Rattle.ranges_tracker.specs.Tracked.{mark_over, placed, texts_in, bare, mixed_in, some_bare, new_delete, kept, Marked, delete_in}
-use Rattle.ranges_tracker.specs.Ready.{Differ, RisingGone}
-use Rattle.ranges_tracker.proofs.Packing.{same_mark_is, same_mark_self, same_kind_is, touch_met, touch_apart}
+use Rattle.ranges_tracker.specs.declared.change.ChangeKind.TheVariants.{Deleted}
+use Rattle.ranges_tracker.specs.Shown.{change, meets, fused, touch, packed, live_cells, gone_cells}
+use Rattle.ranges_tracker.specs.Tracked.{mark_over, placed, texts_in, mixed_in, some_bare, new_delete, kept, Marked, delete_in}
+use Rattle.ranges_tracker.specs.Steady.{RisingGone}
+use Rattle.ranges_tracker.proofs.Packing.{same_mark_self, touch_met, touch_apart}
 use Rattle.ranges_tracker.proofs.Cutting.{mark_over_is}
-use Rattle.ranges_tracker.proofs.Placing.{lost, With, with_by, Fit, placed_cells, fit_differ, Rising, rising_cells, kept_gone, kept_cells, below_closed, above_closed, GapsBelow, seam}
+use Rattle.ranges_tracker.proofs.Placing.{Differ, lost, With, with_by, Fit, placed_cells, fit_differ, Rising, rising_cells, kept_gone, kept_cells, below_closed, above_closed, GapsBelow, seam}
 
 -- one new mark
 pub one_block : (at : ℕ) (us : List ℕ) (m : Mark) → packed (gone_cells (map (gone_at at m) us)) ≡ new_delete at us m
@@ -122,7 +120,7 @@ new_gaps : (at : ℕ) (m : Mark) (us : List ℕ) → GapsBelow (at + 1) (map (go
 new_gaps at m [] = tt
 new_gaps at m (u ∷ us) = (omega arith, new_gaps at m us)
 
-gone_cells-append : (xs ys : List Gone) → gone_cells (xs ++ ys) ≡ gone_cells xs ++ gone_cells ys
+pub gone_cells-append : (xs ys : List Gone) → gone_cells (xs ++ ys) ≡ gone_cells xs ++ gone_cells ys
 gone_cells-append [] ys = refl
 gone_cells-append (x ∷ xs) ys = ap (λ (z : List Change). lost x.gap x.unit x.mark ∷ z) (gone_cells-append xs ys)
 

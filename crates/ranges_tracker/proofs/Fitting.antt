@@ -1,9 +1,8 @@
 -- Places and counts stay below 2 ^ 32 where the text and the units do.
-use Rattle.std.proofs.Common.{◌≡◌, ℕ, zero, suc, ◌+◌, ◌-◌, ◌*◌, ◌<◌, ◌≤◌, Bool, true, false, List, [], ◌∷◌, ◌++◌, refl, ap, ap₂, sym, ◌∙◌, length, arith, map, take, drop, Option, Some, None, subst, ⊎_elim, ◌⊎◌, inl, inr}
-use Rattle.std.specs.Prelude.{nat_le, nat_lt, ◌&&◌, if◌then◌else◌}
+use Rattle.std.proofs.Common.{◌≡◌, ℕ, ◌+◌, ◌-◌, ◌*◌, ◌<◌, ◌≤◌, Bool, true, false, List, [], ◌∷◌, ◌++◌, ap, sym, ◌∙◌, length, arith, map, take, drop, Option, Some, None, subst, ⊎_elim}
+use Rattle.std.specs.Prelude.{nat_le, ◌&&◌, if◌then◌else◌}
 use Rattle.std.specs.List.{All}
-use Rattle.std.specs.Str.{bytes_eq}
-use Rattle.std.proofs.lemmas.Bool.{cases_lt, cases_Bool, lt-ltb, le-ltb, leb-true}
+use Rattle.std.proofs.lemmas.Bool.{cases_Bool, leb-true}
 use Rattle.std.proofs.lemmas.List.{length-map}
 use Rattle.std.proofs.lemmas.List.Elements.{All-cons}
 use Rattle.ot_units.specs.Text.{put_at, cut_at}
@@ -11,18 +10,20 @@ use Rattle.ot_op.specs.Operation.{place, units_of}
 use Rattle.ot_op.specs.Apply.{applied, applied_all, stands}
 use Rattle.ot_op.specs.declared.comp.Comp.{Comp}
 use Rattle.ot_op.specs.declared.comp.Comp.TheVariants.{Ins, Del, Com}
-use Rattle.ranges_tracker.specs.Cells.{Mark, Live, Gone, Thread, Stamp, Row, Chosen, raised, squashed, shifted, own, first_of, chosen, torn, count, fresh_mark, gone_at, mark_at, mark_before, mixed, some_unmarked, text_of, step, deleted}
+use Rattle.ranges_tracker.specs.Cells.{Mark, Live, Gone, Thread, Stamp, Row, own, first_of, chosen, torn, count, fresh_mark, mark_at, mark_before, some_unmarked, text_of, step}
 use Rattle.ranges_tracker.specs.declared.change.Change.{Change}
 use Rattle.ranges_tracker.specs.declared.comment.Comment.{Comment}
 use Rattle.ranges_tracker.specs.Shown.{meets, fused, touch, packed, live_cell, live_cells, gone_cells, up_to, past, merged, shown, shown_changes}
-use Rattle.ranges_tracker.specs.Ready.{Within, Roomy, RoomyAll, ranges_in}
-use Rattle.ranges_tracker.specs.Steady.{Steady, GapsWithin, units_all, IsFit}
+use Rattle.ranges_tracker.specs.Ranged.{Roomy, RoomyAll, ranges_in}
+use Rattle.ranges_tracker.specs.Steady.{Within, GapsWithin, Steady, units_all, IsFit, IsFitStep}
+use Rattle.ranges_tracker.specs.Ordered.{Lined, Rising}
+use Rattle.ranges_tracker.proofs.Cutting.{lined_cells}
+use Rattle.ranges_tracker.proofs.Placing.{rising_cells}
+use Rattle.ranges_tracker.proofs.Merging.{split_inserts, split_deletes}
 use Rattle.ranges_tracker.proofs.Packing.{touch_met, touch_apart}
-use Rattle.ranges_tracker.proofs.Placing.{kept_gone}
 use Rattle.ranges_tracker.proofs.Commenting.{shown_on}
 use Rattle.ranges_tracker.proofs.Stepping.{if_some, Stands, stands_of, Same, step_is}
-use Rattle.ranges_tracker.proofs.Lasting.{raised_cases, squash_within}
-use Rattle.ranges_tracker.proofs.Keeping.{steady_ready, keep_step, inserted_length, deleted_length}
+use Rattle.ranges_tracker.proofs.Keeping.{keep_step, inserted_length, deleted_length}
 use Rattle.ranges_tracker.proofs.Folding.{text_step, First, first_of_all}
 
 abbrev pub AtMost : ℕ → List Change → Type 0
@@ -50,7 +51,7 @@ most_lives : (m at : ℕ) (ls : List Live) → at + length ls ≤ m → AtMost m
 most_lives m at [] h = tt
 most_lives m at (l ∷ ls) h = most_cell m at l.unit l.mark (live_cells (at + 1) ls) (omega arith) (most_lives m (at + 1) ls (omega arith))
 
-most_gone : (m : ℕ) (gs : List Gone) → GapsWithin m gs → AtMost m (packed (gone_cells gs))
+pub most_gone : (m : ℕ) (gs : List Gone) → GapsWithin m gs → AtMost m (packed (gone_cells gs))
 most_gone m [] h = tt
 most_gone m (g ∷ gs) h = most_touch m _ (packed (gone_cells gs)) h.0 (most_gone m gs h.1)
 
@@ -82,43 +83,6 @@ fit_comments : (m u : ℕ) (text : List ℕ) (ts : List Thread) → m + u < 4294
 fit_comments m u text [] room h = λ k d lt. absurd (omega arith)
 fit_comments m u text (t ∷ ts) room h = All-cons (λ (x : Comment). x.at + u < 4294967296) (shown_on text t) (map (shown_on text) ts) (omega (arith, h.0, h.1)) (fit_comments m u text ts room h.2)
 
--- gaps after a step
-gaps_raised : (at n m : ℕ) (gs : List Gone) → GapsWithin m gs → GapsWithin (m + n) (map (shifted (raised at n)) gs)
-gaps_raised at n m [] h = tt
-gaps_raised at n m (g ∷ gs) h = (⊎_elim {C = raised at n g.gap ≤ m + n} (λ a. omega (arith, a.0, h.0)) (λ a. omega (arith, a.0, h.0)) (raised_cases at n g.gap), gaps_raised at n m gs h.1)
-
-gaps_squashed : (at n m : ℕ) (gs : List Gone) → at + n ≤ m → GapsWithin m gs → GapsWithin (m - n) (map (shifted (squashed at n)) gs)
-gaps_squashed at n m [] room h = tt
-gaps_squashed at n m (g ∷ gs) room h = (squash_within at n g.gap m h.0 room, gaps_squashed at n m gs room h.1)
-
-gaps_append : (m : ℕ) (xs ys : List Gone) → GapsWithin m xs → GapsWithin m ys → GapsWithin m (xs ++ ys)
-gaps_append m [] ys h k = k
-gaps_append m (x ∷ xs) ys h k = (h.0, gaps_append m xs ys h.1 k)
-
-gaps_new : (m at : ℕ) (k : Mark) (us : List ℕ) → at ≤ m → GapsWithin m (map (gone_at at k) us)
-gaps_new m at k [] le = tt
-gaps_new m at k (u ∷ us) le = (le, gaps_new m at k us le)
-
-gaps_low : (at m : ℕ) (gs : List Gone) → at ≤ m → GapsWithin m (kept_gone (λ x. nat_lt x at) gs)
-gaps_low at m [] le = tt
-gaps_low at m (g ∷ gs) le = ⊎_elim {C = GapsWithin m (kept_gone (λ x. nat_lt x at) (g ∷ gs))}
-    (λ lt. let e : kept_gone (λ x. nat_lt x at) (g ∷ gs) ≡ g ∷ kept_gone (λ x. nat_lt x at) gs = rw (lt-ltb g.gap at lt) refl in subst (λ (x : List Gone). GapsWithin m x) (sym e) (omega arith, gaps_low at m gs le))
-    (λ ge. let e : kept_gone (λ x. nat_lt x at) (g ∷ gs) ≡ kept_gone (λ x. nat_lt x at) gs = rw (le-ltb g.gap at ge) refl in subst (λ (x : List Gone). GapsWithin m x) (sym e) (gaps_low at m gs le))
-    (cases_lt g.gap at)
-
-gaps_either : (b : Bool) (n m : ℕ) (g : Gone) (gs : List Gone) → g.gap ≤ m → GapsWithin (m - n) (map (shifted (λ x. x - n)) gs) → GapsWithin (m - n) (map (shifted (λ x. x - n)) (if b then g ∷ gs else gs))
-gaps_either true n m g gs h k = (omega arith, k)
-gaps_either false n m g gs h k = k
-
-gaps_high : (q n m : ℕ) (gs : List Gone) → GapsWithin m gs → GapsWithin (m - n) (map (shifted (λ x. x - n)) (kept_gone (λ x. nat_lt q x) gs))
-gaps_high q n m [] h = tt
-gaps_high q n m (g ∷ gs) h = gaps_either (nat_lt q g.gap) n m g (kept_gone (λ x. nat_lt q x) gs) h.0 (gaps_high q n m gs h.1)
-
-gaps_taken : (b : Bool) (at n m : ℕ) (k : Mark) (us : List ℕ) (gs : List Gone) → at + n ≤ m → GapsWithin m gs →
-    GapsWithin (m - n) (if b then kept_gone (λ x. nat_lt x at) gs ++ (map (gone_at at k) us ++ map (shifted (λ x. x - n)) (kept_gone (λ x. nat_lt (at + n) x) gs)) else map (shifted (squashed at n)) gs)
-gaps_taken true at n m k us gs room h = gaps_append (m - n) (kept_gone (λ x. nat_lt x at) gs) _ (gaps_low at (m - n) gs (omega arith)) (gaps_append (m - n) (map (gone_at at k) us) _ (gaps_new (m - n) at k us (omega arith)) (gaps_high (at + n) n m gs h))
-gaps_taken false at n m k us gs room h = gaps_squashed at n m gs room h
-
 -- a step makes at most two fresh marks
 first_few : (a b : Option Mark) (m : Mark) → (first_of a b m).fresh ≤ 1
 first_few (Some x) b m = omega arith
@@ -143,12 +107,11 @@ one_more false k = omega arith
 -- what a step that applies leaves of the room
 record Left (row : Row) (comp : Comp) (stamp : Stamp) (k : ℕ) : Type 0 where
   pub place_in : place comp + units_of comp ≤ length row.lives + units_of comp
-  pub gaps : GapsWithin (length (step row comp stamp k).row.lives) (step row comp stamp k).row.gone
   pub grows : length (step row comp stamp k).row.lives ≤ length row.lives + units_of comp
   pub marks : (step row comp stamp k).marks ≤ k + 2
 
-left_of : (row : Row) (comp : Comp) (stamp : Stamp) (k : ℕ) (next : List ℕ) → GapsWithin (length row.lives) row.gone → applied (text_of row.lives) comp ≡ Some next → Left row comp stamp k
-left_of row (Ins at part) stamp k next h e =
+left_of : (row : Row) (comp : Comp) (stamp : Stamp) (k : ℕ) (next : List ℕ) → applied (text_of row.lives) comp ≡ Some next → Left row comp stamp k
+left_of row (Ins at part) stamp k next e =
     let a = if_some (nat_le at (length (text_of row.lives))) (put_at (text_of row.lives) at part) next e in
     let size : length (text_of row.lives) ≡ length row.lives = length-map row.lives (λ (l : Live). l.unit) in
     let le : at ≤ length row.lives = omega (arith, leb-true at (length (text_of row.lives)) a.0) in
@@ -157,11 +120,10 @@ left_of row (Ins at part) stamp k next h e =
     let long : length (step row (Ins at part) stamp k).row.lives ≡ length row.lives + length part = inserted_length row.lives at part by.mark old stamp (k + by.fresh) le in
     record {
       place_in = omega arith;
-      gaps = subst (λ (n : ℕ). GapsWithin n (map (shifted (raised at (length part))) row.gone)) (sym long) (gaps_raised at (length part) (length row.lives) row.gone h);
       grows = omega (arith, long);
       marks = omega (arith, chosen_few (mark_before row.lives at) (mark_at row.lives at) stamp k, count_few old);
     }
-left_of row (Del at part) stamp k next h e =
+left_of row (Del at part) stamp k next e =
     let a = if_some (stands (text_of row.lives) at part) (cut_at (text_of row.lives) at (length part)) next e in
     let t : Stands (text_of row.lives) at part = stands_of (text_of row.lives) at part a.0 in
     let size : length (text_of row.lives) ≡ length row.lives = length-map row.lives (λ (l : Live). l.unit) in
@@ -170,41 +132,45 @@ left_of row (Del at part) stamp k next h e =
     let out = take (length part) (drop at row.lives) in
     record {
       place_in = omega arith;
-      gaps = subst (λ (n : ℕ). GapsWithin n (step row (Del at part) stamp k).row.gone) (sym long) (gaps_taken (stamp.track && some_unmarked out) at (length part) (length row.lives) (fresh_mark stamp k) (mixed at out row.gone) row.gone le h);
       grows = omega (arith, long);
       marks = one_more (stamp.track && some_unmarked out) k;
     }
-left_of row (Com at part thread) stamp k next h e =
+left_of row (Com at part thread) stamp k next e =
     let a = if_some (stands (text_of row.lives) at part) (text_of row.lives) next e in
     let t : Stands (text_of row.lives) at part = stands_of (text_of row.lives) at part a.0 in
     let size : length (text_of row.lives) ≡ length row.lives = length-map row.lives (λ (l : Live). l.unit) in
-    record { place_in = omega (arith, t.room); gaps = h; grows = omega arith; marks = omega arith }
+    record { place_in = omega (arith, t.room); grows = omega arith; marks = omega arith }
 
 -- one component has room where the text and its units have
-pub roomy_one : (row : Row) (comp : Comp) (stamp : Stamp) (k : ℕ) (next : List ℕ) → Steady row stamp k → GapsWithin (length row.lives) row.gone → applied (text_of row.lives) comp ≡ Some next → length row.lives + units_of comp < 4294967296 → k + 2 < 4294967296 → Roomy (shown row) comp k
-roomy_one row comp stamp k next s gaps e room few =
-    let left : Left row comp stamp k = left_of row comp stamp k next gaps e in
+pub roomy_one : (row : Row) (comp : Comp) (stamp : Stamp) (k : ℕ) (next : List ℕ) → Steady row stamp k → applied (text_of row.lives) comp ≡ Some next → length row.lives + units_of comp < 4294967296 → k + 2 < 4294967296 → Roomy (shown row) comp k
+roomy_one row comp stamp k next s e room few =
+    let left : Left row comp stamp k = left_of row comp stamp k next e in
     record {
       place_fits = omega (arith, left.place_in);
-      changes_fit = fit_changes (length row.lives) (units_of comp) (shown_changes row) room (most_merged (length row.lives) _ _ (most_lives (length row.lives) 0 row.lives (omega arith)) (most_gone (length row.lives) row.gone gaps));
+      changes_fit = fit_changes (length row.lives) (units_of comp) (shown_changes row) room (most_merged (length row.lives) _ _ (most_lives (length row.lives) 0 row.lives (omega arith)) (most_gone (length row.lives) row.gone s.gaps));
       comments_fit = fit_comments (length row.lives) (units_of comp) (text_of row.lives) row.threads room s.threads;
       few = few;
+      inserts_lined = subst (λ (cs : List Change). Lined 0 cs) (sym (split_inserts row)) (lined_cells 0 row.lives);
+      deletes_rise = subst (λ (cs : List Change). Rising 0 cs) (sym (split_deletes row)) (rising_cells 0 row.gone s.rises);
     }
 
 -- and all components
-pub roomy_all : (cs : List Comp) (row : Row) (stamp : Stamp) (k : ℕ) (next : List ℕ) → Steady row stamp k → GapsWithin (length row.lives) row.gone → applied_all (text_of row.lives) cs ≡ Some next →
+pub roomy_all : (cs : List Comp) (row : Row) (stamp : Stamp) (k : ℕ) (next : List ℕ) → Steady row stamp k → applied_all (text_of row.lives) cs ≡ Some next →
     length row.lives + units_all cs < 4294967296 → k + 2 * length cs < 4294967296 → RoomyAll (shown row) cs stamp k
-roomy_all [] row stamp k next s gaps e room few = tt
-roomy_all (c ∷ cs) row stamp k next s gaps e room few =
+roomy_all [] row stamp k next s e room few = tt
+roomy_all (c ∷ cs) row stamp k next s e room few =
     let f : First (text_of row.lives) c cs next = first_of_all (text_of row.lives) c cs next e in
-    let same : Same row c stamp k = step_is row c stamp k f.mid (steady_ready row stamp k s) f.here in
-    let left : Left row c stamp k = left_of row c stamp k f.mid gaps f.here in
+    let same : Same row c stamp k = step_is row c stamp k f.mid s f.here in
+    let left : Left row c stamp k = left_of row c stamp k f.mid f.here in
     let text : text_of (step row c stamp k).row.lives ≡ f.mid = text_step row c stamp k f.mid f.here in
     let more : RoomyAll (shown (step row c stamp k).row) cs stamp (step row c stamp k).marks =
-    roomy_all cs (step row c stamp k).row stamp (step row c stamp k).marks next (keep_step row c stamp k f.mid s f.here) left.gaps (ap (λ (t : List ℕ). applied_all t cs) text ∙ f.rest) (omega (arith, left.grows)) (omega (arith, left.marks)) in (
-      roomy_one row c stamp k f.mid s gaps f.here (omega arith) (omega arith),
+    roomy_all cs (step row c stamp k).row stamp (step row c stamp k).marks next (keep_step row c stamp k f.mid s f.here) (ap (λ (t : List ℕ). applied_all t cs) text ∙ f.rest) (omega (arith, left.grows)) (omega (arith, left.marks)) in (
+      roomy_one row c stamp k f.mid s f.here (omega arith) (omega arith),
       subst (λ (n : ℕ). RoomyAll (ranges_in (shown row) c stamp k) cs stamp n) same.marks (subst (λ (r : List Change × List Comment). RoomyAll r cs stamp (step row c stamp k).marks) same.ranges more),
     )
 
 pub fit_roomy : (ranges : List Change × List Comment) (cs : List Comp) (stamp : Stamp) → IsFit ranges cs stamp → RoomyAll ranges cs stamp 0
-fit_roomy ranges cs stamp f = subst (λ (r : List Change × List Comment). RoomyAll r cs stamp 0) f.is (roomy_all cs f.row stamp 0 f.next f.steady f.gaps f.applies f.room (omega (arith, f.few)))
+fit_roomy ranges cs stamp f = subst (λ (r : List Change × List Comment). RoomyAll r cs stamp 0) f.is (roomy_all cs f.row stamp 0 f.next f.steady f.applies f.room (omega (arith, f.few)))
+
+pub fit_one : (ranges : List Change × List Comment) (comp : Comp) (stamp : Stamp) (k : ℕ) → IsFitStep ranges comp stamp k → Roomy ranges comp k
+fit_one ranges comp stamp k f = subst (λ (r : List Change × List Comment). Roomy r comp k) f.is (roomy_one f.row comp stamp k f.next f.steady f.applies f.room f.few)

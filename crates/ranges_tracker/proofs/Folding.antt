@@ -1,6 +1,6 @@
 -- The steps of an operation, as they are shown.
-use Rattle.std.proofs.Common.{◌≡◌, ℕ, ◌+◌, ◌≤◌, Bool, true, false, List, [], ◌∷◌, refl, ap, ap₂, sym, ◌∙◌, length, Option, Some, None, subst}
-use Rattle.std.specs.Prelude.{nat_le, if◌then◌else◌}
+use Rattle.std.proofs.Common.{◌≡◌, ℕ, ◌+◌, List, [], ◌∷◌, refl, ap, ap₂, sym, ◌∙◌, length, Option, Some, None}
+use Rattle.std.specs.Prelude.{nat_le}
 use Rattle.std.specs.Option.{option_and_then}
 use Rattle.ot_units.specs.Text.{put_at, cut_at}
 use Rattle.ot_op.specs.Apply.{applied, applied_all, stands}
@@ -10,11 +10,10 @@ use Rattle.ranges_tracker.specs.Cells.{Stamp, Row, Stepped, chosen, torn, mark_a
 use Rattle.ranges_tracker.specs.declared.change.Change.{Change}
 use Rattle.ranges_tracker.specs.declared.comment.Comment.{Comment}
 use Rattle.ranges_tracker.specs.Shown.{shown}
-use Rattle.ranges_tracker.specs.Tracked.{changes_in}
-use Rattle.ranges_tracker.specs.Ready.{Ready, Ranged, ranges_in, ranges_all}
+use Rattle.ranges_tracker.specs.Ranged.{Ranged, ranges_all}
 use Rattle.ranges_tracker.specs.Steady.{Steady, IsStepsOf}
 use Rattle.ranges_tracker.proofs.Stepping.{if_some, text_inserted, text_deleted, Same, step_is}
-use Rattle.ranges_tracker.proofs.Keeping.{steady_ready, keep_step}
+use Rattle.ranges_tracker.proofs.Keeping.{keep_step}
 
 -- the live cells after a step are the text after the component
 pub text_step : (row : Row) (comp : Comp) (stamp : Stamp) (k : ℕ) (next : List ℕ) → applied (text_of row.lives) comp ≡ Some next → text_of (step row comp stamp k).row.lives ≡ next
@@ -44,7 +43,7 @@ pub steps_are : (cs : List Comp) (row : Row) (stamp : Stamp) (k : ℕ) (next : L
 steps_are [] row stamp k next s e = refl
 steps_are (c ∷ cs) row stamp k next s e =
     let f : First (text_of row.lives) c cs next = first_of_all (text_of row.lives) c cs next e in
-    let same : Same row c stamp k = step_is row c stamp k f.mid (steady_ready row stamp k s) f.here in
+    let same : Same row c stamp k = step_is row c stamp k f.mid s f.here in
     let text : text_of (step row c stamp k).row.lives ≡ f.mid = text_step row c stamp k f.mid f.here in
     ap₂ (λ (r : List Change × List Comment) (n : ℕ). ranges_all r cs stamp n) (sym same.ranges) (sym same.marks)
     ∙ steps_are cs (step row c stamp k).row stamp (step row c stamp k).marks next (keep_step row c stamp k f.mid s f.here) (ap (λ (t : List ℕ). applied_all t cs) text ∙ f.rest)

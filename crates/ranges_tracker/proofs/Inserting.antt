@@ -1,19 +1,25 @@
 -- The shown inserts after an insert and after a delete.
-use Rattle.std.proofs.Common.{◌≡◌, ℕ, zero, suc, ◌+◌, ◌-◌, ◌<◌, ◌≤◌, Bool, true, false, List, [], ◌∷◌, ◌++◌, refl, ap, ap₂, sym, ◌∙◌, length, arith, append_assoc, append-nil, length-append, map, take, drop, Option, Some, None, subst, ⊎_elim, ◌⊎◌, inl, inr, take-append-drop}
-use Rattle.std.specs.Prelude.{◌&&◌, ◌==◌, nat_le, nat_lt, if◌then◌else◌}
+use Rattle.std.proofs.Common.{◌≡◌, ℕ, zero, suc, ◌+◌, ◌-◌, ◌<◌, ◌≤◌, Bool, true, false, List, [], ◌∷◌, ◌++◌, refl, ap, ap₂, sym, ◌∙◌, length, arith, append_assoc, map, take, drop, Option, Some, None, subst, ⊎_elim, ◌⊎◌, inl, inr, take-append-drop}
+use Rattle.std.specs.Prelude.{◌&&◌, ◌==◌, nat_lt, if◌then◌else◌}
 use Rattle.std.specs.Bool.{Decides}
-use Rattle.std.proofs.lemmas.Bool.{cases_Bool, and_parts, cases_lt, eqb-true, eqb-false, eq-eqb, ne_eqb}
+use Rattle.std.proofs.lemmas.Bool.{cases_Bool, eq-eqb}
 use Rattle.std.proofs.lemmas.Bool.Decides.{same_from_decides, Decides-like, Decides-eqb, not_from_Decides}
 use Rattle.std.proofs.lemmas.List.{length-take-le, length-map}
-use Rattle.ranges_tracker.specs.Cells.{Mark, Live, Stamp, Row, Stepped, same_mark, mark_at, mark_before, exchanged, renewed, remarked, new_lives, chosen, torn, count, inserted}
+use Rattle.ranges_tracker.specs.Cells.{Mark, Live, Stamp, Row, same_mark, mark_at, mark_before, exchanged, renewed, remarked, new_lives, chosen, torn, count, inserted}
 use Rattle.ranges_tracker.specs.declared.change.Change.{Change}
-use Rattle.ranges_tracker.specs.declared.change.ChangeKind.{ChangeKind}
-use Rattle.ranges_tracker.specs.declared.change.ChangeKind.TheVariants.{Inserted, Deleted}
+use Rattle.ranges_tracker.specs.declared.change.ChangeKind.TheVariants.{Inserted}
 use Rattle.ranges_tracker.specs.Shown.{change, mark_of, same_kind, meets, fused, touch, packed, live_cell, live_cells}
-use Rattle.ranges_tracker.specs.Tracked.{piece, heads, tails, mark_over, over_before, moved, exchanged_mark, exchanged_in, new_insert, renewed_in, Marked, insert_in, cut_in, IsOlder}
-use Rattle.ranges_tracker.specs.Ready.{Older}
-use Rattle.ranges_tracker.proofs.Packing.{same_mark_is, same_mark_self, touch_met, touch_apart, onto, onto-packed, packed-append, packed_twice, packed_parts}
+use Rattle.ranges_tracker.specs.Tracked.{piece, heads, tails, over_before, moved, exchanged_mark, exchanged_in, new_insert, renewed_in, Marked, insert_in, cut_in}
+use Rattle.ranges_tracker.proofs.Packing.{same_mark_is, same_mark_self, touch_met, touch_apart, onto, onto-packed, packed-append, packed_parts}
 use Rattle.ranges_tracker.proofs.Cutting.{Lined, lined_cells, cell, Met, met_by, put_cell, packed_put, heads_cells, tails_cells, mark_over_is}
+
+-- a change with a mark from before the update's mark number k
+abbrev pub IsOlder : ℕ → ℕ → Change → Type 0
+IsOlder version k c = (c.version ≤ version) × (c.version ≡ version → c.k < k)
+
+abbrev pub Older : ℕ → ℕ → List Change → Type 0
+Older version k [] = Unit {0}
+Older version k (c ∷ cs) = IsOlder version k c × Older version k cs
 
 pub same_mark-Decides : (m n : Mark) → Decides (same_mark m n) (m ≡ n)
 same_mark-Decides m n = (same_mark_is m n, λ e. ap (λ (x : Mark). same_mark m x) (sym e) ∙ same_mark_self m)

@@ -1,24 +1,24 @@
 -- A step keeps what the next one needs.
-use Rattle.std.proofs.Common.{◌≡◌, ℕ, zero, suc, ◌+◌, ◌-◌, ◌<◌, ◌≤◌, Bool, true, false, List, [], ◌∷◌, ◌++◌, refl, ap, ap₂, sym, ◌∙◌, length, arith, length-append, map, take, drop, Option, Some, None, subst, take-append-drop, ⊎_elim, ◌⊎◌, inl, inr}
+use Rattle.std.proofs.Common.{◌≡◌, ℕ, suc, ◌+◌, ◌-◌, ◌<◌, ◌≤◌, Bool, true, false, List, [], ◌∷◌, ◌++◌, refl, ap, sym, length, arith, length-append, map, take, drop, Option, Some, None, subst, take-append-drop, ◌⊎◌, inl, inr}
 use Rattle.std.specs.Prelude.{nat_lt, nat_le, ◌&&◌, if◌then◌else◌}
-use Rattle.std.proofs.lemmas.Bool.{cases_lt, cases_Bool, lt-ltb, le-ltb, leb-true}
-use Rattle.std.proofs.lemmas.List.{length-take-le, length-map, drop-map, take-map}
+use Rattle.std.proofs.lemmas.Bool.{cases_Bool, leb-true}
+use Rattle.std.proofs.lemmas.List.{length-take-le, length-map}
 use Rattle.ot_units.specs.Text.{put_at, cut_at}
 use Rattle.ot_op.specs.Apply.{applied, stands}
 use Rattle.ot_op.specs.declared.comp.Comp.{Comp}
 use Rattle.ot_op.specs.declared.comp.Comp.TheVariants.{Ins, Del, Com}
-use Rattle.ranges_tracker.specs.Cells.{Mark, Live, Gone, Thread, Stamp, Row, Chosen, raised, squashed, shifted, chosen, torn, fresh_mark, gone_at, mark_at, mark_before, same_mark, mixed, some_unmarked, text_of, remarked, new_lives, step, deleted}
+use Rattle.ranges_tracker.specs.Cells.{Mark, Live, Gone, Stamp, Row, raised, squashed, shifted, chosen, torn, fresh_mark, gone_at, mark_at, mark_before, same_mark, mixed, some_unmarked, text_of, remarked, new_lives, step, deleted}
 use Rattle.ranges_tracker.specs.declared.change.Change.{Change}
-use Rattle.ranges_tracker.specs.Shown.{mark_of, packed, live_cells, gone_cells}
-use Rattle.ranges_tracker.specs.Tracked.{placed, kept, new_delete}
-use Rattle.ranges_tracker.specs.Ready.{Older, RisingGone, Within, Ready}
-use Rattle.ranges_tracker.specs.Steady.{OlderLives, OlderGone, NoMark, Distinct, Steady}
+use Rattle.ranges_tracker.specs.Shown.{mark_of, packed, gone_cells}
+use Rattle.ranges_tracker.specs.Steady.{RisingGone, GapsWithin, Within, OlderGone, NoMark, Distinct, Steady}
 use Rattle.ranges_tracker.proofs.Packing.{same_mark_is}
-use Rattle.ranges_tracker.proofs.Placing.{kept_gone, GapsBelow, fit_raised, fit_differ, placed_cells}
+use Rattle.ranges_tracker.proofs.Inserting.{Older}
+use Rattle.ranges_tracker.proofs.Placing.{kept_gone, fit_raised, fit_differ, placed_cells}
 use Rattle.ranges_tracker.proofs.Deleting.{new_law, kept_rising, above_rising, below_gaps, lower_rising, new_rising}
 use Rattle.ranges_tracker.proofs.Commenting.{thread_with, thread_without}
 use Rattle.ranges_tracker.proofs.Stepping.{if_some, Stands, stands_of}
-use Rattle.ranges_tracker.proofs.Lasting.{older_packed, older_touch, lives_inserted, lives_deleted, lives_more, distinct_differ, distinct_placed, distinct_taken, raised_rises, squashed_rises, rising_join, rising_less, within_with, within_without, within_set}
+use Rattle.ranges_tracker.proofs.Gaps.{gaps_raised, gaps_taken}
+use Rattle.ranges_tracker.proofs.Lasting.{older_touch, lives_inserted, lives_deleted, lives_more, distinct_differ, distinct_placed, distinct_taken, raised_rises, squashed_rises, rising_join, rising_less, within_with, within_without, within_set}
 
 gone_packed : (v k : ℕ) (gs : List Gone) → OlderGone v k gs → Older v k (packed (gone_cells gs))
 gone_packed v k [] h = tt
@@ -61,10 +61,6 @@ fresh_apart stamp k (c ∷ cs) h = (one (cases_Bool (same_mark (fresh_mark stamp
         absurd (omega arith)
     one (inr f) = f
 
--- a steady row is ready for a step
-pub steady_ready : (row : Row) (stamp : Stamp) (k : ℕ) → Steady row stamp k → Ready row stamp k
-steady_ready row stamp k s = record { rises = s.rises; differ = distinct_differ (packed (gone_cells row.gone)) s.distinct; older = older_packed stamp.version k 0 row.lives s.lives; threads = s.threads }
-
 same_length : (o : Option Mark) (stamp : Stamp) (j : ℕ) (ls : List Live) → length (remarked o stamp j ls) ≡ length ls
 same_length None stamp j ls = refl
 same_length (Some m) stamp j [] = refl
@@ -94,6 +90,7 @@ keep_insert row at part stamp k s le =
     let more : k ≤ marks = omega arith in
     record {
       rises = raised_rises at (length part) row.gone s.rises;
+      gaps = subst (λ (n : ℕ). GapsWithin n (map (shifted (raised at (length part))) row.gone)) (sym (inserted_length row.lives at part by.mark old stamp (k + by.fresh) le)) (gaps_raised at (length part) (length row.lives) row.gone s.gaps);
       distinct = subst (λ (x : List Change). Distinct x) (placed_cells (raised at (length part)) row.gone (fit_raised at (length part) (packed (gone_cells row.gone)))) (distinct_placed (raised at (length part)) (packed (gone_cells row.gone)) s.distinct);
       lives = lives_inserted stamp k at part row.lives s.lives;
       gone = gone_shifted (raised at (length part)) stamp.version marks row.gone (gone_more stamp.version k marks row.gone more s.gone);
@@ -102,6 +99,10 @@ keep_insert row at part stamp k s le =
 
 keep_threads : (row : Row) (at n : ℕ) → Within (length row.lives) row.threads → at + n ≤ length row.lives → Within (length (take at row.lives ++ drop (at + n) row.lives)) (map (thread_without at n) row.threads)
 keep_threads row at n h le = subst (λ (m : ℕ). Within m (map (thread_without at n) row.threads)) (sym (deleted_length row.lives at n le)) (within_without (length row.lives) at n row.threads le h)
+
+keep_gaps : (row : Row) (at n : ℕ) → GapsWithin (length row.lives) row.gone → at + n ≤ length row.lives → (b : Bool) (m : Mark) (us : List ℕ) →
+    GapsWithin (length (take at row.lives ++ drop (at + n) row.lives)) (if b then kept_gone (λ x. nat_lt x at) row.gone ++ (map (gone_at at m) us ++ map (shifted (λ x. x - n)) (kept_gone (λ x. nat_lt (at + n) x) row.gone)) else map (shifted (squashed at n)) row.gone)
+keep_gaps row at n h le b m us = subst (λ (q : ℕ). GapsWithin q (if b then kept_gone (λ x. nat_lt x at) row.gone ++ (map (gone_at at m) us ++ map (shifted (λ x. x - n)) (kept_gone (λ x. nat_lt (at + n) x) row.gone)) else map (shifted (squashed at n)) row.gone)) (sym (deleted_length row.lives at n le)) (gaps_taken b at n (length row.lives) m us row.gone le h)
 
 taken_rises : (gone : List Gone) (at n : ℕ) (us : List ℕ) (m : Mark) → RisingGone 0 gone → RisingGone 0 (kept_gone (λ x. nat_lt x at) gone ++ (map (gone_at at m) us ++ map (shifted (λ x. x - n)) (kept_gone (λ x. nat_lt (at + n) x) gone)))
 taken_rises gone at n us m h =
@@ -118,6 +119,7 @@ keep_gone row at n stamp k s le true us =
     let more : k ≤ k + 1 = omega arith in
     record {
       rises = taken_rises row.gone at n us (fresh_mark stamp k) s.rises;
+      gaps = keep_gaps row at n s.gaps le true (fresh_mark stamp k) us;
       distinct = subst (λ (x : List Change). Distinct x) (new_law row.gone at n us (fresh_mark stamp k) s.rises) (distinct_taken (packed (gone_cells row.gone)) at n us (fresh_mark stamp k) s.distinct (fresh_apart stamp k (packed (gone_cells row.gone)) (gone_packed v k row.gone s.gone)));
       lives = lives_more v k (k + 1) (take at row.lives ++ drop (at + n) row.lives) more (lives_deleted v k at n row.lives s.lives);
       gone = gone_append v (k + 1) (kept_gone (λ x. nat_lt x at) row.gone) _ (gone_kept (λ x. nat_lt x at) v (k + 1) row.gone (gone_more v k (k + 1) row.gone more s.gone))
@@ -127,6 +129,7 @@ keep_gone row at n stamp k s le true us =
 keep_gone row at n stamp k s le false us =
     record {
       rises = squashed_rises at n row.gone s.rises;
+      gaps = keep_gaps row at n s.gaps le false (fresh_mark stamp k) us;
       distinct = subst (λ (x : List Change). Distinct x) (placed_cells (squashed at n) row.gone (fit_differ (squashed at n) (packed (gone_cells row.gone)) (distinct_differ (packed (gone_cells row.gone)) s.distinct))) (distinct_placed (squashed at n) (packed (gone_cells row.gone)) s.distinct);
       lives = lives_deleted stamp.version k at n row.lives s.lives;
       gone = gone_shifted (squashed at n) stamp.version k row.gone s.gone;
@@ -151,4 +154,4 @@ keep_step row (Com at part thread) stamp k next s e =
     let a = if_some (stands (text_of row.lives) at part) (text_of row.lives) next e in
     let t : Stands (text_of row.lives) at part = stands_of (text_of row.lives) at part a.0 in
     let count : length (text_of row.lives) ≡ length row.lives = length-map row.lives (λ (l : Live). l.unit) in
-    record { rises = s.rises; distinct = s.distinct; lives = s.lives; gone = s.gone; threads = within_set (length row.lives) thread at (at + length part) row.threads (omega arith) (omega (arith, t.room)) s.threads }
+    record { rises = s.rises; gaps = s.gaps; distinct = s.distinct; lives = s.lives; gone = s.gone; threads = within_set (length row.lives) thread at (at + length part) row.threads (omega arith) (omega (arith, t.room)) s.threads }

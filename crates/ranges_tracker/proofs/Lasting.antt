@@ -1,19 +1,18 @@
 -- What a step needs of a row, the row after the step has too.
-use Rattle.std.proofs.Common.{◌≡◌, ℕ, zero, suc, ◌+◌, ◌-◌, ◌<◌, ◌≤◌, Bool, true, false, List, [], ◌∷◌, ◌++◌, refl, ap, ap₂, sym, ◌∙◌, length, arith, length-append, map, take, drop, Option, Some, None, subst, ⊎_elim, ◌⊎◌, inl, inr}
-use Rattle.std.specs.Prelude.{nat_le, nat_lt, ◌||◌, ◌&&◌, not, ◌==◌, if◌then◌else◌}
+use Rattle.std.proofs.Common.{◌≡◌, ℕ, zero, suc, ◌+◌, ◌-◌, ◌<◌, ◌≤◌, Bool, true, false, List, [], ◌∷◌, ◌++◌, refl, sym, ◌∙◌, arith, map, take, drop, Option, Some, None, subst, ⊎_elim, ◌⊎◌, inl, inr}
+use Rattle.std.specs.Prelude.{nat_le, nat_lt, ◌||◌, ◌&&◌, ◌==◌, if◌then◌else◌}
 use Rattle.std.specs.Str.{bytes_eq}
 use Rattle.std.proofs.lemmas.Bool.{cases_lt, cases_Bool, lt-ltb, le-ltb, le-leb, lt-leb}
-use Rattle.ranges_tracker.specs.Cells.{Mark, Live, Gone, Thread, Stamp, Row, Chosen, raised, squashed, shifted, set_thread, own, first_of, chosen, torn, bears, renewed, remarked, new_lives, exchanged, same_mark, count, fresh_mark, gone_at, mark_at, mark_before}
+use Rattle.ranges_tracker.specs.Cells.{Mark, Live, Gone, Thread, Stamp, Chosen, raised, squashed, shifted, set_thread, own, first_of, chosen, torn, renewed, remarked, new_lives, exchanged, same_mark, count, fresh_mark, mark_at, mark_before}
 use Rattle.ranges_tracker.specs.declared.change.Change.{Change}
-use Rattle.ranges_tracker.specs.Shown.{change, mark_of, meets, fused, touch, packed, live_cell, live_cells, gone_cells}
-use Rattle.ranges_tracker.specs.Ready.{Older, RisingGone, Differ, Within}
+use Rattle.ranges_tracker.specs.Shown.{change, mark_of, meets, fused, touch, packed, live_cell, live_cells}
 use Rattle.std.proofs.lemmas.Bool.Decides.{same_from_decides, Decides-like}
 use Rattle.ranges_tracker.specs.declared.change.ChangeKind.TheVariants.{Deleted}
 use Rattle.ranges_tracker.specs.Tracked.{placed, kept, new_delete}
-use Rattle.ranges_tracker.specs.Steady.{OlderMark, OlderLives, NoMark, Distinct}
+use Rattle.ranges_tracker.specs.Steady.{RisingGone, Within, OlderMark, OlderLives, NoMark, Distinct}
 use Rattle.ranges_tracker.proofs.Packing.{touch_met, touch_apart}
-use Rattle.ranges_tracker.proofs.Inserting.{same_mark-Decides}
-use Rattle.ranges_tracker.proofs.Placing.{kept_gone, GapsBelow}
+use Rattle.ranges_tracker.proofs.Inserting.{Older, same_mark-Decides}
+use Rattle.ranges_tracker.proofs.Placing.{Differ, GapsBelow}
 use Rattle.ranges_tracker.proofs.Commenting.{thread_with, thread_without}
 
 -- gaps stay in order

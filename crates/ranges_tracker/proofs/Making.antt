@@ -1,12 +1,12 @@
 -- What the pushes make of heads, new cells and tails.
-use Rattle.std.proofs.Common.{◌≡◌, ℕ, zero, suc, ◌+◌, ◌-◌, ◌<◌, ◌≤◌, Bool, true, false, List, [], ◌∷◌, ◌++◌, refl, ap, ap₂, sym, ◌∙◌, length, arith, append_assoc, map, drop, Option, Some, None, ⊎_elim}
+use Rattle.std.proofs.Common.{◌≡◌, ℕ, ◌+◌, ◌-◌, Bool, true, false, List, [], ◌∷◌, ◌++◌, refl, ap, sym, ◌∙◌, length, append_assoc, map, drop, Option, Some, None, ⊎_elim}
 use Rattle.std.specs.Prelude.{nat_lt, if◌then◌else◌}
 use Rattle.std.specs.List.{flat_map}
 use Rattle.std.proofs.lemmas.Bool.{cases_Bool}
 use Rattle.ranges_tracker.specs.Cells.{Mark, Stamp, Chosen, same_mark, chosen, torn, renewed, count}
 use Rattle.ranges_tracker.specs.declared.change.Change.{Change}
 use Rattle.ranges_tracker.specs.Shown.{change, mark_of, packed}
-use Rattle.ranges_tracker.specs.Tracked.{piece, heads, tails, tail_part, tail_place, moved, exchanged_mark, exchanged_in, renewed_in, new_insert, pushed_all, Marked, insert_in, cut_in, over_before, mark_over}
+use Rattle.ranges_tracker.specs.Tracked.{piece, heads, tails, moved, exchanged_in, renewed_in, new_insert, pushed_all, insert_in, cut_in, over_before, mark_over}
 use Rattle.ranges_tracker.specs.Torn.{renumber_by, tail_by, torn_by, torn_count}
 use Rattle.ranges_tracker.proofs.Packing.{packed_all, same_mark_is}
 

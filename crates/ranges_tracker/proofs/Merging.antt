@@ -1,22 +1,23 @@
 -- Inserts and deletes of merged changes, and what a step of a row makes of them.
-use Rattle.std.proofs.Common.{◌≡◌, ℕ, zero, suc, ◌+◌, ◌-◌, ◌<◌, ◌≤◌, Bool, true, false, List, [], ◌∷◌, ◌++◌, refl, ap, ap₂, sym, ◌∙◌, length, arith, append_assoc, append-nil, length-append, map, take, drop, Option, Some, None, subst, ⊎_elim, take-append-drop}
-use Rattle.std.specs.Prelude.{nat_le, filter, if◌then◌else◌}
+use Rattle.std.proofs.Common.{◌≡◌, ℕ, ◌+◌, ◌≤◌, Bool, true, false, List, [], ◌∷◌, ◌++◌, refl, ap, ap₂, sym, ◌∙◌, length, arith, map, take, drop, Option, Some, None, subst, ⊎_elim, take-append-drop}
+use Rattle.std.specs.Prelude.{nat_le, if◌then◌else◌}
 use Rattle.std.proofs.lemmas.Bool.{cases_Bool}
-use Rattle.std.proofs.lemmas.List.{length-take-le, drop-drop, length-map}
+use Rattle.std.proofs.lemmas.List.{length-take-le, drop-drop}
 use Rattle.std.proofs.lemmas.List.Elements.{filter-append}
-use Rattle.ot_op.specs.declared.comp.Comp.{Comp}
-use Rattle.ot_op.specs.declared.comp.Comp.TheVariants.{Ins, Del, Com}
-use Rattle.ranges_tracker.specs.Cells.{Mark, Live, Gone, Stamp, Row, Stepped, text_of, raised, shifted, inserted, deleted, step}
+use Rattle.ot_op.specs.declared.comp.Comp.TheVariants.{Ins, Del}
+use Rattle.ranges_tracker.specs.Cells.{Mark, Live, Gone, Stamp, Row, Stepped, text_of, raised, deleted, step}
 use Rattle.ranges_tracker.specs.declared.change.Change.{Change}
 use Rattle.ranges_tracker.specs.declared.change.ChangeKind.{ChangeKind}
 use Rattle.ranges_tracker.specs.declared.change.ChangeKind.TheVariants.{Inserted, Deleted}
 use Rattle.ranges_tracker.specs.Shown.{change, same_kind, meets, fused, touch, packed, live_cell, live_cells, gone_cells, up_to, past, merged, shown_changes}
 use Rattle.ranges_tracker.specs.Tracked.{placed, Marked, insert_in, cut_in, delete_in, inserts_of, deletes_of, changes_in}
-use Rattle.ranges_tracker.specs.Ready.{Ready}
+use Rattle.ranges_tracker.specs.Steady.{Steady}
 use Rattle.ranges_tracker.proofs.Packing.{touch_met, touch_apart}
 use Rattle.ranges_tracker.proofs.Inserting.{insert_law, cut_law}
 use Rattle.ranges_tracker.proofs.Placing.{placed_cells, fit_raised}
 use Rattle.ranges_tracker.proofs.Deleting.{delete_law}
+use Rattle.ranges_tracker.proofs.Forms.{up_to_past}
+use Rattle.ranges_tracker.proofs.Lasting.{older_packed, distinct_differ}
 
 -- changes of one kind
 abbrev pub Of : ChangeKind → List Change → Type 0
@@ -47,14 +48,6 @@ of_lives at (l ∷ ls) = of_cell at l.unit l.mark (live_cells (at + 1) ls) (of_l
 pub of_gone : (gone : List Gone) → Of Deleted (packed (gone_cells gone))
 of_gone [] = tt
 of_gone (g ∷ gs) = of_touch Deleted (change Deleted g.gap (g.unit ∷ []) g.mark) (packed (gone_cells gs)) refl (of_gone gs)
-
-split_here : (b : Bool) (d : Change) (us ps ds : List Change) → us ++ ps ≡ ds → (if b then d ∷ us else []) ++ (if b then ps else d ∷ ds) ≡ d ∷ ds
-split_here true d us ps ds e = ap (λ (x : List Change). d ∷ x) e
-split_here false d us ps ds e = refl
-
-up_to_past : (at : ℕ) (ds : List Change) → up_to at ds ++ past at ds ≡ ds
-up_to_past at [] = refl
-up_to_past at (d ∷ ds) = split_here (nat_le d.at at) d (up_to at ds) (past at ds) ds (up_to_past at ds)
 
 of_either : (b : Bool) (xs ys : List Change) → Of Deleted xs → Of Deleted ys → Of Deleted (if b then xs else ys)
 of_either true xs ys h k = h
@@ -97,25 +90,25 @@ deletes_merged (i ∷ is) ds hi hd =
     ∙ ap₂ (λ (x y : List Change). x ++ y) (all_deletes (up_to i.at ds) (of_up_to i.at ds hd)) (not_delete i (merged is (past i.at ds)) hi.0 ∙ deletes_merged is (past i.at ds) hi.1 (of_past i.at ds hd))
     ∙ up_to_past i.at ds
 
-split_inserts : (row : Row) → inserts_of (shown_changes row) ≡ packed (live_cells 0 row.lives)
+pub split_inserts : (row : Row) → inserts_of (shown_changes row) ≡ packed (live_cells 0 row.lives)
 split_inserts row = inserts_merged (packed (live_cells 0 row.lives)) (packed (gone_cells row.gone)) (of_lives 0 row.lives) (of_gone row.gone)
 
-split_deletes : (row : Row) → deletes_of (shown_changes row) ≡ packed (gone_cells row.gone)
+pub split_deletes : (row : Row) → deletes_of (shown_changes row) ≡ packed (gone_cells row.gone)
 split_deletes row = deletes_merged (packed (live_cells 0 row.lives)) (packed (gone_cells row.gone)) (of_lives 0 row.lives) (of_gone row.gone)
 
 abbrev pub shown_step : Stepped → Marked
 shown_step s = record { changes = shown_changes s.row; marks = s.marks }
 
-pub insert_shown : (row : Row) (at : ℕ) (part : List ℕ) (stamp : Stamp) (k : ℕ) → Ready row stamp k → at ≤ length row.lives →
+pub insert_shown : (row : Row) (at : ℕ) (part : List ℕ) (stamp : Stamp) (k : ℕ) → Steady row stamp k → at ≤ length row.lives →
     changes_in (shown_changes row) (Ins at part) stamp k ≡ shown_step (step row (Ins at part) stamp k)
 insert_shown row at part stamp k h le =
     let f : List Change → List Change → Marked = λ is ds. let r = insert_in is at part stamp k in record { changes = merged r.changes (map (placed (raised at (length part))) ds); marks = r.marks } in
     let g : Marked → List Change → Marked = λ r ds. record { changes = merged r.changes ds; marks = r.marks } in
     ap₂ f (split_inserts row) (split_deletes row)
-    ∙ ap₂ g (insert_law row at part stamp k le h.older) (placed_cells (raised at (length part)) row.gone (fit_raised at (length part) (packed (gone_cells row.gone))))
+    ∙ ap₂ g (insert_law row at part stamp k le (older_packed stamp.version k 0 row.lives h.lives)) (placed_cells (raised at (length part)) row.gone (fit_raised at (length part) (packed (gone_cells row.gone))))
 
 -- the units that a delete takes out are those of the row
-pub delete_shown : (row : Row) (at : ℕ) (part : List ℕ) (stamp : Stamp) (k : ℕ) → Ready row stamp k → at + length part ≤ length row.lives → part ≡ text_of (take (length part) (drop at row.lives)) →
+pub delete_shown : (row : Row) (at : ℕ) (part : List ℕ) (stamp : Stamp) (k : ℕ) → Steady row stamp k → at + length part ≤ length row.lives → part ≡ text_of (take (length part) (drop at row.lives)) →
     changes_in (shown_changes row) (Del at part) stamp k ≡ shown_step (step row (Del at part) stamp k)
 delete_shown row at part stamp k h le is =
     let n = length part in
@@ -126,7 +119,7 @@ delete_shown row at part stamp k h le is =
     let whole : row.lives ≡ front ++ (out ++ rest) = sym (ap (λ (x : List Live). front ++ x) (ap (λ (x : List Live). out ++ x) (sym (drop-drop n at row.lives)) ∙ take-append-drop n (drop at row.lives)) ∙ take-append-drop at row.lives) in
     let count : length (text_of out) ≡ n = ap length (sym is) in
     let outs : out ≡ take (length (text_of out)) (drop (length front) row.lives) = sym (ap₂ (λ (a b : ℕ). take a (drop b row.lives)) count e) in
-    let law = delete_law row front out rest stamp k whole outs h.rises h.differ in
+    let law = delete_law row front out rest stamp k whole outs h.rises (distinct_differ (packed (gone_cells row.gone)) h.distinct) in
     let law2 : delete_in (packed (live_cells 0 row.lives)) (packed (gone_cells row.gone)) at part stamp k ≡ record { changes = packed (gone_cells (deleted row at n stamp k).row.gone); marks = (deleted row at n stamp k).marks } =
     ap₂ (λ (a : ℕ) (t : List ℕ). delete_in (packed (live_cells 0 row.lives)) (packed (gone_cells row.gone)) a t stamp k) (sym e) is ∙ law
     ∙ ap₂ (λ (a b : ℕ). let r : Marked = record { changes = packed (gone_cells (deleted row a b stamp k).row.gone); marks = (deleted row a b stamp k).marks } in r) e count in

@@ -1,7 +1,6 @@
 -- Neighbours of one mark become one change: what `packed` keeps.
-use Rattle.std.proofs.Common.{◌≡◌, ℕ, zero, suc, ◌+◌, ◌-◌, ◌<◌, ◌≤◌, Bool, true, false, List, [], ◌∷◌, ◌++◌, refl, ap, ap₂, sym, ◌∙◌, length, arith, append_assoc, append-nil, length-append, map, ⊎_elim, ◌⊎◌, inl, inr}
-use Rattle.std.specs.Prelude.{◌&&◌, ◌==◌, nat_le, if◌then◌else◌}
-use Rattle.std.specs.Str.{bytes_eq}
+use Rattle.std.proofs.Common.{◌≡◌, ℕ, ◌+◌, Bool, true, false, List, [], ◌∷◌, ◌++◌, refl, ap, ap₂, sym, ◌∙◌, length, arith, append_assoc, append-nil, length-append, ⊎_elim, ◌⊎◌, inl, inr}
+use Rattle.std.specs.Prelude.{◌&&◌, ◌==◌}
 use Rattle.std.proofs.lemmas.Slice.Eq.{bytes_eq-Decides}
 use Rattle.std.proofs.lemmas.Bool.Decides.{Decides-eqb}
 use Rattle.std.proofs.lemmas.Bool.{cases_Bool, and_parts}
@@ -9,7 +8,7 @@ use Rattle.ranges_tracker.specs.Cells.{Mark, same_mark}
 use Rattle.ranges_tracker.specs.declared.change.Change.{Change}
 use Rattle.ranges_tracker.specs.declared.change.ChangeKind.{ChangeKind}
 use Rattle.ranges_tracker.specs.declared.change.ChangeKind.TheVariants.{Inserted, Deleted}
-use Rattle.ranges_tracker.specs.Shown.{change, mark_of, reach_of, reach, same_kind, meets, fused, touch, packed}
+use Rattle.ranges_tracker.specs.Shown.{mark_of, reach_of, reach, same_kind, meets, fused, touch, packed}
 use Rattle.ranges_tracker.specs.Tracked.{pushed, pushed_all}
 
 -- marks of one id, user and moment are one mark

@@ -1,5 +1,5 @@
 -- Parts of a text are texts.
-use Rattle.std.proofs.Common.{ℕ, ◌-◌, List, take, drop}
+use Rattle.std.proofs.Common.{ℕ, ◌-◌, List, drop}
 use Rattle.std.specs.Prelude.{IsTrue, slice_range}
 use Rattle.std.proofs.lemmas.List.Elements.{All-take, All-drop}
 use Rattle.ot_units.specs.Text.{IsText, is_unit}

@@ -1,18 +1,22 @@
 -- Shown deletes at other places, and those of some places.
-use Rattle.std.proofs.Common.{◌≡◌, ℕ, zero, suc, ◌+◌, ◌-◌, ◌<◌, ◌≤◌, Bool, true, false, List, [], ◌∷◌, ◌++◌, refl, ap, ap₂, sym, ◌∙◌, length, arith, append_assoc, append-nil, length-append, map, take, drop, Option, Some, None, subst, ⊎_elim, ◌⊎◌, inl, inr, take-append-drop}
-use Rattle.std.specs.Prelude.{◌&&◌, ◌||◌, ◌==◌, not, is_some, nat_le, nat_lt, filter, if◌then◌else◌}
-use Rattle.std.proofs.lemmas.Bool.{cases_Bool, and_parts, cases_lt, cases_eq, eqb-true, eqb-false, eq-eqb, ne_eqb, lt-ltb, le-ltb, le-leb, lt-leb, ltb-true, ltb-false}
+use Rattle.std.proofs.Common.{◌≡◌, ℕ, ◌+◌, ◌<◌, ◌≤◌, Bool, true, false, List, [], ◌∷◌, ◌++◌, refl, ap, sym, ◌∙◌, arith, map, subst, ⊎_elim, ◌⊎◌, inl, inr}
+use Rattle.std.specs.Prelude.{◌&&◌, ◌==◌, nat_lt, filter}
+use Rattle.std.proofs.lemmas.Bool.{cases_Bool, and_parts, cases_lt, eqb-true, eq-eqb, ne_eqb, le-ltb, le-leb, lt-leb, ltb-true, ltb-false}
 use Rattle.std.proofs.lemmas.Bool.Decides.{same_from_decides, Decides-like, Decides-eqb}
-use Rattle.std.proofs.lemmas.List.{length-take-le}
-use Rattle.ranges_tracker.specs.Cells.{Mark, Live, Gone, Stamp, Row, same_mark, mark_at, text_of, units_in, unmarked, mixed, some_unmarked, gone_at, shifted, raised, squashed, fresh_mark, deleted}
+use Rattle.ranges_tracker.specs.Cells.{Mark, Gone, same_mark, shifted, raised}
 use Rattle.ranges_tracker.specs.declared.change.Change.{Change}
-use Rattle.ranges_tracker.specs.declared.change.ChangeKind.{ChangeKind}
-use Rattle.ranges_tracker.specs.declared.change.ChangeKind.TheVariants.{Inserted, Deleted}
-use Rattle.ranges_tracker.specs.Shown.{change, mark_of, same_kind, meets, fused, touch, packed, live_cells, gone_cells}
-use Rattle.ranges_tracker.specs.Tracked.{mark_over, placed, texts_in, bare, mixed_in, some_bare, new_delete, kept, Marked, delete_in}
-use Rattle.ranges_tracker.specs.Ready.{Differ, RisingGone}
-use Rattle.ranges_tracker.proofs.Packing.{same_mark_is, same_mark_self, same_kind_is, touch_met, touch_apart}
-use Rattle.ranges_tracker.proofs.Cutting.{mark_over_is}
+use Rattle.ranges_tracker.specs.declared.change.ChangeKind.TheVariants.{Deleted}
+use Rattle.ranges_tracker.specs.Shown.{change, mark_of, same_kind, meets, fused, touch, packed, gone_cells}
+pub use Rattle.ranges_tracker.specs.Ordered.{Rising}
+use Rattle.ranges_tracker.specs.Tracked.{placed, kept}
+use Rattle.ranges_tracker.specs.Steady.{RisingGone}
+use Rattle.ranges_tracker.proofs.Packing.{same_mark_is, same_kind_is, touch_met, touch_apart}
+
+-- neighbours bear different marks
+abbrev pub Differ : List Change → Type 0
+Differ [] = Unit {0}
+Differ (c ∷ []) = Unit {0}
+Differ (c ∷ d ∷ ds) = (same_mark (mark_of c) (mark_of d) ≡ false) × Differ (d ∷ ds)
 
 abbrev pub lost : ℕ → ℕ → Mark → Change
 lost at u m = change Deleted at (u ∷ []) m
@@ -97,10 +101,6 @@ fit_differ f (c ∷ []) h = tt
 fit_differ f (c ∷ d ∷ ds) h = (inr h.0, fit_differ f (d ∷ ds) h.1)
 
 -- in the order of the row
-abbrev pub Rising : ℕ → List Change → Type 0
-Rising at [] = Unit {0}
-Rising at (c ∷ cs) = (at ≤ c.at) × Rising c.at cs
-
 rising_touch : (a at u : ℕ) (m : Mark) (gs : List Change) → a ≤ at → Rising at gs → Rising a (touch (lost at u m) gs)
 rising_touch a at u m [] le h = (le, tt)
 rising_touch a at u m (d ∷ ds) le h = ⊎_elim {C = Rising a (touch (lost at u m) (d ∷ ds))}

@@ -1,13 +1,13 @@
 -- One turn of the loops over changes.
-use Rattle.std.proofs.Common.{◌≡◌, ℕ, zero, suc, ◌+◌, ◌-◌, ◌<◌, ◌≤◌, Bool, true, false, List, [], ◌∷◌, ◌++◌, refl, ap, ap₂, sym, ◌∙◌, length, arith, append_assoc, append-nil, get_or, take, drop, Option, Some, None}
-use Rattle.std.specs.Prelude.{slice_set, ◌&&◌, ◌||◌, not, is_some, nat_le, nat_lt, if◌then◌else◌}
+use Rattle.std.proofs.Common.{map, take, ◌-◌, ◌≡◌, ℕ, zero, suc, ◌+◌, ◌<◌, ◌≤◌, Bool, true, false, List, [], ◌∷◌, ◌++◌, refl, ap, ap₂, sym, ◌∙◌, length, arith, append-nil, get_or, drop, Some}
+use Rattle.std.specs.Prelude.{slice_set, ◌&&◌, nat_le, nat_lt, if◌then◌else◌}
 use Rattle.std.specs.List.{flat_map}
-use Rattle.std.proofs.lemmas.Bool.{lt-ltb, le-ltb}
 use Rattle.std.proofs.lemmas.List.{at_drop_more, drop_all, take_all}
 use Rattle.ot_units.specs.Text.{put_at}
 use Rattle.ranges_tracker.specs.declared.change.Change.{Change}
 use Rattle.ranges_tracker.specs.Shown.{mark_of, meets, fused, touch}
-use Rattle.ranges_tracker.specs.Tracked.{pushed, pushed_all, mark_over, some_bare}
+use Rattle.ranges_tracker.specs.Cells.{Stamp, fresh_mark, squashed}
+use Rattle.ranges_tracker.specs.Tracked.{Marked, pushed, pushed_all, mark_over, some_bare, mixed_in, kept, placed, new_delete, delete_in}
 use Rattle.ranges_tracker.proofs.Packing.{touch_met, touch_apart}
 
 pub pushed_met : (cs : List Change) (n : ℕ) (l g m : Change) → length cs ≡ suc n → l ≡ get_or cs n l → meets l g ≡ true → m ≡ fused l g → pushed cs g ≡ slice_set cs n m
@@ -48,8 +48,18 @@ push_turn f made cs k c lt is = at_drop_more (λ (x : List Change). pushed_all m
 pub push_done : (f : Change → List Change) (made cs : List Change) (k : ℕ) → length cs ≤ k → pushed_all made (flat_map f (drop k cs)) ≡ made
 push_done f made cs k h = ap (λ (x : List Change). pushed_all made (flat_map f x)) (drop_all k cs h)
 
-pub bare_turn : (at j : ℕ) (part : List ℕ) (is : List Change) (b : Bool) → j < length part → b ≡ is_some (mark_over (at + j) is) → some_bare (at + j) (drop j part) is ≡ (not b || some_bare (at + (j + 1)) (drop (j + 1) part) is)
-bare_turn at j part is b lt e =
-    at_drop_more (λ (x : List ℕ). some_bare (at + j) x is) part j 0 lt
-    ∙ ap (λ (x : ℕ). not (is_some (mark_over (at + j) is)) || some_bare x (drop (j + 1) part) is) (omega arith)
-    ∙ ap (λ (x : Bool). not x || some_bare (at + (j + 1)) (drop (j + 1) part) is) (sym e)
+-- a loop that writes each change
+pub write_turn : (f : Change → Change) (cs : List Change) (i n : ℕ) (c d : Change) → n ≡ suc i → i < length cs → c ≡ f (get_or (map f (take i cs) ++ drop i cs) i d) → slice_set (map f (take i cs) ++ drop i cs) i c ≡ map f (take n cs) ++ drop n cs
+write_turn f [] i n c d e lt is = absurd (omega arith)
+write_turn f (x ∷ xs) zero n c d e lt is = ap (λ (y : Change). y ∷ xs) is ∙ ap (λ (k : ℕ). map f (take k (x ∷ xs)) ++ drop k (x ∷ xs)) (sym e)
+write_turn f (x ∷ xs) (suc i) n c d e lt is = ap (λ (y : List Change). f x ∷ y) (write_turn f xs i (suc i) c d refl (omega arith) is) ∙ ap (λ (k : ℕ). map f (take k (x ∷ xs)) ++ drop k (x ∷ xs)) (sym e)
+
+pub written : (f : Change → Change) (cs now : List Change) (i n : ℕ) (c d : Change) → n ≡ suc i → i < length cs → now ≡ map f (take i cs) ++ drop i cs → c ≡ f (get_or now i d) → slice_set now i c ≡ map f (take n cs) ++ drop n cs
+written f cs now i n c d e lt is made = ap (λ (x : List Change). slice_set x i c) is ∙ write_turn f cs i n c d e lt (made ∙ ap (λ (x : List Change). f (get_or x i d)) is)
+
+-- a delete that takes over what is gone around it
+abbrev pub taken : List Change → List Change → ℕ → List ℕ → Stamp → ℕ → List Change
+taken is ds at part stamp k = kept (λ x. nat_lt x at) ds ++ (new_delete at (mixed_in at part is ds) (fresh_mark stamp k) ++ map (placed (λ x. x - length part)) (kept (λ x. nat_lt (at + length part) x) ds))
+
+pub taken_is : (is ds : List Change) (at : ℕ) (part : List ℕ) (stamp : Stamp) (k : ℕ) → (stamp.track && some_bare at part is) ≡ true → taken is ds at part stamp k ≡ (delete_in is ds at part stamp k).changes
+taken_is is ds at part stamp k e = let made : Bool → Marked = λ b. if b then record { changes = taken is ds at part stamp k; marks = k + 1 } else record { changes = map (placed (squashed at (length part))) ds; marks = k } in sym (ap (λ (b : Bool). (made b).changes) e)

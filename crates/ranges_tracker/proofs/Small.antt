@@ -1,32 +1,43 @@
 -- What the tests need: small places leave room, and a first operation fits the empty text.
-use Rattle.std.proofs.Common.{◌≡◌, ℕ, ◌+◌, ◌<◌, ◌^◌, Bool, true, List, [], ◌∷◌, refl, arith, Some, sym, subst}
-use Rattle.std.specs.Prelude.{nat_lt, ◌&&◌}
-use Rattle.std.specs.List.{All, list_all}
-use Rattle.std.proofs.lemmas.Bool.{and_parts, ltb-true}
-use Rattle.std.proofs.lemmas.List.Elements.{All-cons}
+use Rattle.std.proofs.Common.{length, ◌≡◌, ℕ, ◌<◌, true, List, [], ◌∷◌, refl, arith, sym, subst}
 use Rattle.ot_op.specs.declared.comp.Comp.{Comp}
 use Rattle.ot_op.specs.declared.comp.Comp.TheVariants.{Ins, Del}
 use Rattle.ranges_tracker.specs.Cells.{Stamp, plain_row}
 use Rattle.ranges_tracker.specs.declared.change.Change.{Change}
 use Rattle.ranges_tracker.specs.declared.comment.Comment.{Comment}
+use Rattle.ot_op.specs.Apply.{stands}
+use Rattle.ranges_tracker.specs.declared.change.ChangeKind.TheVariants.{Inserted}
 use Rattle.ranges_tracker.specs.Steady.{IsFit}
-
-pub changes_fit : (n : ℕ) (cs : List Change) → n < 1000 → list_all (λ c. nat_lt c.at 1000) cs ≡ true → All (λ c. c.at + n < 2 ^ 32) cs
-changes_fit n [] h e = λ k d l. absurd (omega arith)
-changes_fit n (c ∷ cs) h e =
-    let p = and_parts (nat_lt c.at 1000) (list_all (λ (c1 : Change). nat_lt c1.at 1000) cs) e in
-    let low : c.at < 1000 = ltb-true c.at 1000 p.0 in
-    All-cons (λ (c1 : Change). c1.at + n < 2 ^ 32) c cs (omega arith) (changes_fit n cs h p.1)
-
-pub comments_fit : (n : ℕ) (cs : List Comment) → n < 1000 → list_all (λ c. nat_lt c.at 1000) cs ≡ true → All (λ c. c.at + n < 2 ^ 32) cs
-comments_fit n [] h e = λ k d l. absurd (omega arith)
-comments_fit n (c ∷ cs) h e =
-    let p = and_parts (nat_lt c.at 1000) (list_all (λ (c1 : Comment). nat_lt c1.at 1000) cs) e in
-    let low : c.at < 1000 = ltb-true c.at 1000 p.0 in
-    All-cons (λ (c1 : Comment). c1.at + n < 2 ^ 32) c cs (omega arith) (comments_fit n cs h p.1)
+use Rattle.ranges_tracker.specs.Agree.{IsBehind, IdsDiffer, StandsIn, ThreadsDiffer, IsKeptForm}
+use Rattle.ranges_tracker.specs.Kept.{IsKept}
+use Rattle.ranges_tracker.proofs.Forms.{each_all, pairs_all}
+use Rattle.ranges_tracker.proofs.Rebuilt.{form_agree}
 
 pub first_fit : (ranges : List Change × List Comment) (op : List Comp) (stamp : Stamp) → ranges ≡ ([], []) → op ≡ Ins 0 (97 ∷ 98 ∷ []) ∷ Del 0 (97 ∷ []) ∷ [] → IsFit ranges op stamp
 first_fit ranges op stamp r o =
     subst (λ (x : List Change × List Comment). IsFit x op stamp) (sym r)
     (subst (λ (x : List Comp). IsFit ([], []) x stamp) (sym o)
-    (record { row = plain_row []; next = 98 ∷ []; steady = record { rises = tt; distinct = tt; lives = tt; gone = tt; threads = tt }; gaps = tt; is = refl; applies = refl; room = omega arith; few = omega arith }))
+    (record { row = plain_row []; next = 98 ∷ []; steady = record { rises = tt; gaps = tt; distinct = tt; lives = tt; gone = tt; threads = tt }; is = refl; applies = refl; room = omega arith; few = omega arith }))
+
+-- one insert and one comment on `a`, a line feed and `b`
+abbrev pub marked_changes : List ℕ → List Change
+marked_changes user = record { version = 2; k = 0; at = 2; kind = Inserted; text = 98 ∷ []; user = user; ms = 5 } ∷ []
+
+abbrev pub marked_comments : List Comment
+marked_comments = record { thread = 7; at = 0; text = 97 ∷ [] } ∷ []
+
+marked_form : (user : List ℕ) → IsKeptForm (marked_changes user, marked_comments) (97 ∷ 10 ∷ 98 ∷ [])
+marked_form user = record {
+  filled = each_all (λ (c : Change). 0 < length c.text) (marked_changes user) (omega arith, tt);
+  ids = pairs_all IdsDiffer (marked_changes user) (tt, tt);
+  places = pairs_all IsBehind (marked_changes user) (tt, tt);
+  changes = each_all (StandsIn (97 ∷ 10 ∷ 98 ∷ [])) (marked_changes user) (refl, tt);
+  threads = pairs_all ThreadsDiffer marked_comments (tt, tt);
+  comments = each_all (λ (c : Comment). stands (97 ∷ 10 ∷ 98 ∷ []) c.at c.text ≡ true) marked_comments (refl, tt);
+}
+
+pub marked_kept : (ranges : List Change × List Comment) (text user : List ℕ) → ranges ≡ (marked_changes user, marked_comments) → text ≡ 97 ∷ 10 ∷ 98 ∷ [] → IsKept text 3 ranges
+marked_kept ranges text user r t =
+    subst (λ (x : List Change × List Comment). IsKept text 3 x) (sym r)
+    (subst (λ (x : List ℕ). IsKept x 3 (marked_changes user, marked_comments)) (sym t)
+    (record { agree = form_agree (marked_changes user, marked_comments) (97 ∷ 10 ∷ 98 ∷ []) (marked_form user); since = each_all (λ (c : Change). c.version < 3) (marked_changes user) (omega arith, tt); long = omega arith; bound = omega arith }))

@@ -1,21 +1,21 @@
 -- A step of a row, as it is shown: the law of changes and comments together.
-use Rattle.std.proofs.Common.{◌≡◌, ℕ, zero, suc, ◌+◌, ◌-◌, ◌<◌, ◌≤◌, Bool, true, false, List, [], ◌∷◌, ◌++◌, refl, ap, ap₂, sym, ◌∙◌, length, arith, append_assoc, length-append, map, take, drop, Option, Some, None, subst, ⊎_elim, take-append-drop}
-use Rattle.std.specs.Prelude.{nat_le, ◌&&◌, ◌==◌, if◌then◌else◌}
-use Rattle.std.specs.Str.{bytes_eq}
+use Rattle.std.proofs.Common.{◌≡◌, ℕ, ◌+◌, ◌-◌, ◌≤◌, Bool, true, false, List, [], ◌∷◌, ◌++◌, refl, ap, ap₂, sym, ◌∙◌, length, arith, append_assoc, length-append, map, take, drop, Option, Some, None, subst, ⊎_elim, take-append-drop}
+use Rattle.std.specs.Prelude.{nat_le, ◌==◌, if◌then◌else◌}
 use Rattle.std.proofs.lemmas.Slice.Eq.{bytes_eq-Decides}
-use Rattle.std.proofs.lemmas.Bool.{cases_Bool, and_parts, leb-true, cases_lt}
-use Rattle.std.proofs.lemmas.List.{length-take-le, take-map, drop-map, map-append, length-map, take_all}
+use Rattle.std.proofs.lemmas.Bool.{and_parts, leb-true, cases_lt}
+use Rattle.std.proofs.lemmas.List.{length-take-le, take-map, drop-map, length-map, take_all}
 use Rattle.ot_units.specs.Text.{put_at, cut_at, part_at}
 use Rattle.ot_op.specs.Apply.{applied, stands}
 use Rattle.ot_op.specs.declared.comp.Comp.{Comp}
 use Rattle.ot_op.specs.declared.comp.Comp.TheVariants.{Ins, Del, Com}
-use Rattle.ranges_tracker.specs.Cells.{Mark, Live, Thread, Stamp, Row, text_of, exchanged, renewed, remarked, new_lives, set_thread, chosen, torn, mark_at, mark_before, step}
+use Rattle.ranges_tracker.specs.Cells.{Mark, Live, Thread, Stamp, Row, text_of, remarked, new_lives, set_thread, chosen, torn, mark_at, mark_before, step}
 use Rattle.ranges_tracker.specs.declared.change.Change.{Change}
 use Rattle.ranges_tracker.specs.declared.comment.Comment.{Comment}
 use Rattle.ranges_tracker.specs.Shown.{shown, shown_changes, shown_comments}
 use Rattle.ranges_tracker.specs.Tracked.{Marked, changes_in}
-use Rattle.ranges_tracker.specs.Commented.{comment_of, comment_past, comment_without, comment_set, comments_in}
-use Rattle.ranges_tracker.specs.Ready.{Within, Ready, ranges_in, IsStepOf}
+use Rattle.ranges_tracker.specs.Commented.{comment_past, comment_without, comment_set, comments_in}
+use Rattle.ranges_tracker.specs.Steady.{Within, Steady, IsStepOf}
+use Rattle.ranges_tracker.specs.Ranged.{ranges_in}
 use Rattle.ranges_tracker.proofs.Merging.{insert_shown, delete_shown, shown_step}
 use Rattle.ranges_tracker.proofs.Commenting.{shown_on, thread_with, thread_without, comment_with_is, comment_without_is}
 
@@ -81,14 +81,14 @@ set_all : (text : List ℕ) (thread from to : ℕ) (ts : List Thread) → map (s
 set_all text thread from to [] = refl
 set_all text thread from to (t ∷ ts) = set_one (t.thread == thread) (shown_on text) (record { thread = thread; from = from; to = to }) t ts (set_thread thread from to ts) _ (set_all text thread from to ts)
 
-insert_comments : (row : Row) (at : ℕ) (part : List ℕ) (stamp : Stamp) (k : ℕ) → Ready row stamp k → at ≤ length row.lives → shown_comments (step row (Ins at part) stamp k).row ≡ comments_in (shown_comments row) (Ins at part)
+insert_comments : (row : Row) (at : ℕ) (part : List ℕ) (stamp : Stamp) (k : ℕ) → Steady row stamp k → at ≤ length row.lives → shown_comments (step row (Ins at part) stamp k).row ≡ comments_in (shown_comments row) (Ins at part)
 insert_comments row at part stamp k h le =
     let by = chosen (mark_before row.lives at) (mark_at row.lives at) stamp k in
     let count : length (text_of row.lives) ≡ length row.lives = length-map row.lives (λ (l : Live). l.unit) in
     ap (λ (text : List ℕ). map (shown_on text) (map (thread_with at (length part)) row.threads)) (text_inserted row.lives at part by.mark (torn (mark_before row.lives at) (mark_at row.lives at) by.mark) stamp (k + by.fresh))
     ∙ with_all (text_of row.lives) part at row.threads (subst (λ (n : ℕ). Within n row.threads) (sym count) h.threads) (omega arith)
 
-delete_comments : (row : Row) (at : ℕ) (part : List ℕ) (stamp : Stamp) (k : ℕ) → Ready row stamp k → at + length part ≤ length row.lives → shown_comments (step row (Del at part) stamp k).row ≡ comments_in (shown_comments row) (Del at part)
+delete_comments : (row : Row) (at : ℕ) (part : List ℕ) (stamp : Stamp) (k : ℕ) → Steady row stamp k → at + length part ≤ length row.lives → shown_comments (step row (Del at part) stamp k).row ≡ comments_in (shown_comments row) (Del at part)
 delete_comments row at part stamp k h le =
     let count : length (text_of row.lives) ≡ length row.lives = length-map row.lives (λ (l : Live). l.unit) in
     ap (λ (text : List ℕ). map (shown_on text) (map (thread_without at (length part)) row.threads)) (text_deleted row.lives at (length part))
@@ -102,7 +102,7 @@ same_of : (row : Row) (comp : Comp) (stamp : Stamp) (k : ℕ) → changes_in (sh
 same_of row comp stamp k e f = record { ranges = ap₂ (λ (x : List Change) (y : List Comment). (x, y)) (sym (ap (λ (m : Marked). m.changes) e)) f; marks = sym (ap (λ (m : Marked). m.marks) e) }
 
 -- a step of a row is what the ranges become
-pub step_is : (row : Row) (comp : Comp) (stamp : Stamp) (k : ℕ) (next : List ℕ) → Ready row stamp k → applied (text_of row.lives) comp ≡ Some next → Same row comp stamp k
+pub step_is : (row : Row) (comp : Comp) (stamp : Stamp) (k : ℕ) (next : List ℕ) → Steady row stamp k → applied (text_of row.lives) comp ≡ Some next → Same row comp stamp k
 step_is row (Ins at part) stamp k next h e =
     let a = if_some (nat_le at (length (text_of row.lives))) (put_at (text_of row.lives) at part) next e in
     let count : length (text_of row.lives) ≡ length row.lives = length-map row.lives (λ (l : Live). l.unit) in

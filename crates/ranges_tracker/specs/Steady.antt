@@ -1,13 +1,27 @@
--- Rows that steps keep, and the room that an operation needs.
-use Rattle.std.specs.Prelude.{◌≡◌, ℕ, ◌+◌, ◌*◌, ◌^◌, ◌<◌, ◌≤◌, Bool, false, List, [], ◌∷◌, length, Option, Some, None}
+-- The rows that steps keep, what the steps of such a row show, and the room that they need.
+use Rattle.std.specs.Prelude.{◌≡◌, ℕ, ◌+◌, ◌*◌, ◌^◌, ◌<◌, ◌≤◌, false, List, [], ◌∷◌, length, Option, Some, None}
 use Rattle.ot_op.specs.declared.comp.Comp.{Comp}
 use Rattle.ot_op.specs.Operation.{units_of}
-use Rattle.ot_op.specs.Apply.{applied_all}
-use Rattle.ranges_tracker.specs.Cells.{Mark, Live, Gone, Stamp, Row, same_mark, text_of, steps}
+use Rattle.ot_op.specs.Apply.{applied, applied_all}
+use Rattle.ranges_tracker.specs.Cells.{Mark, Live, Gone, Stamp, Thread, Row, same_mark, text_of, step, steps}
 use Rattle.ranges_tracker.specs.declared.change.Change.{Change}
 use Rattle.ranges_tracker.specs.declared.comment.Comment.{Comment}
 use Rattle.ranges_tracker.specs.Shown.{mark_of, packed, gone_cells, shown}
-use Rattle.ranges_tracker.specs.Ready.{RisingGone, Within}
+
+-- the gone cells stand in the order of their gaps
+abbrev pub RisingGone : ℕ → List Gone → Type 0
+RisingGone at [] = Unit {0}
+RisingGone at (g ∷ gs) = (at ≤ g.gap) × RisingGone g.gap gs
+
+-- gaps within the text
+abbrev pub GapsWithin : ℕ → List Gone → Type 0
+GapsWithin m [] = Unit {0}
+GapsWithin m (g ∷ gs) = (g.gap ≤ m) × GapsWithin m gs
+
+-- each thread starts before it ends, within the text
+abbrev pub Within : ℕ → List Thread → Type 0
+Within n [] = Unit {0}
+Within n (t ∷ ts) = (t.from ≤ t.to) × (t.to ≤ n) × (Within n ts)
 
 -- marks stay older than the next fresh one
 abbrev pub OlderMark : ℕ → ℕ → Option Mark → Type 0
@@ -32,29 +46,39 @@ abbrev pub OlderGone : ℕ → ℕ → List Gone → Type 0
 OlderGone v k [] = Unit {0}
 OlderGone v k (g ∷ gs) = (g.mark.version ≤ v) × (g.mark.version ≡ v → g.mark.k < k) × (OlderGone v k gs)
 
--- what is kept from step to step
+-- what a step needs of a row, and what it keeps
 pub record Steady (row : Row) (stamp : Stamp) (k : ℕ) : Type 0 where
   pub rises : RisingGone 0 row.gone
+  pub gaps : GapsWithin (length row.lives) row.gone
   pub distinct : Distinct (packed (gone_cells row.gone))
   pub lives : OlderLives stamp.version k row.lives
   pub gone : OlderGone stamp.version k row.gone
   pub threads : Within (length row.lives) row.threads
 
--- gaps within the text
-abbrev pub GapsWithin : ℕ → List Gone → Type 0
-GapsWithin m [] = Unit {0}
-GapsWithin m (g ∷ gs) = (g.gap ≤ m) × GapsWithin m gs
+-- ranges and a count of marks are those of the step of each row that shows the ranges before
+abbrev pub IsStepOf : List Change × List Comment → Comp → Stamp → ℕ → List Change × List Comment → ℕ → Type 0
+IsStepOf ranges comp stamp k next marks = (row : Row) (text : List ℕ) → Steady row stamp k → shown row ≡ ranges → applied (text_of row.lives) comp ≡ Some text →
+    (shown (step row comp stamp k).row ≡ next) × ((step row comp stamp k).marks ≡ marks)
 
 abbrev pub units_all : List Comp → ℕ
 units_all [] = 0
 units_all (c ∷ cs) = units_of c + units_all cs
+
+-- some row shows these ranges, and the component applies to its text within the bounds
+pub record IsFitStep (ranges : List Change × List Comment) (comp : Comp) (stamp : Stamp) (k : ℕ) : Type 0 where
+  pub row : Row
+  pub next : List ℕ
+  pub steady : Steady row stamp k
+  pub is : shown row ≡ ranges
+  pub applies : applied (text_of row.lives) comp ≡ Some next
+  pub room : length row.lives + units_of comp < 2 ^ 32
+  pub few : k + 2 < 2 ^ 32
 
 -- some row shows these ranges, and the operation applies to its text within the bounds
 pub record IsFit (ranges : List Change × List Comment) (op : List Comp) (stamp : Stamp) : Type 0 where
   pub row : Row
   pub next : List ℕ
   pub steady : Steady row stamp 0
-  pub gaps : GapsWithin (length row.lives) row.gone
   pub is : shown row ≡ ranges
   pub applies : applied_all (text_of row.lives) op ≡ Some next
   pub room : length row.lives + units_all op < 2 ^ 32
@@ -63,3 +87,10 @@ pub record IsFit (ranges : List Change × List Comment) (op : List Comp) (stamp 
 -- these are the ranges of the steps of each row that shows the ranges before
 abbrev pub IsStepsOf : List Change × List Comment → List Comp → Stamp → List Change × List Comment → Type 0
 IsStepsOf ranges op stamp next = (row : Row) (text : List ℕ) → Steady row stamp 0 → shown row ≡ ranges → applied_all (text_of row.lives) op ≡ Some text → shown (steps row op stamp 0).row ≡ next
+
+-- some row shows these ranges of a text, and its marks are of versions below one
+pub record AreOf (ranges : List Change × List Comment) (text : List ℕ) (version : ℕ) : Type 0 where
+  pub row : Row
+  pub steady : (stamp : Stamp) → stamp.version ≡ version → Steady row stamp 0
+  pub text_is : text_of row.lives ≡ text
+  pub is : shown row ≡ ranges

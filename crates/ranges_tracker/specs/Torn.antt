@@ -1,7 +1,7 @@
 -- Changes from a place on, under a fresh id where they bear a torn mark.
-use Rattle.std.specs.Prelude.{ℕ, ◌+◌, ◌-◌, Bool, true, false, List, [], ◌∷◌, length, drop, Option, Some, None, nat_lt, if◌then◌else◌}
+use Rattle.std.specs.Prelude.{ℕ, ◌+◌, ◌-◌, List, [], ◌∷◌, length, drop, Option, Some, None, nat_lt, if◌then◌else◌}
 use Rattle.ranges_tracker.specs.Cells.{Mark, same_mark}
-use Rattle.ranges_tracker.specs.Shown.{change, mark_of}
+use Rattle.ranges_tracker.specs.Shown.{mark_of}
 use Rattle.ranges_tracker.specs.Tracked.{piece, tail_place}
 use Rattle.ranges_tracker.specs.declared.change.Change.{Change}
 use Rattle.ranges_tracker.specs.declared.mark.Torn.{Torn}

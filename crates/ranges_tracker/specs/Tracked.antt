@@ -1,5 +1,5 @@
 -- What the steps of a row make of its inserts and its deletes as they are shown.
-use Rattle.std.specs.Prelude.{◌≡◌, ◌<◌, ◌≤◌, ℕ, zero, suc, ◌+◌, ◌-◌, Bool, true, false, List, [], ◌∷◌, ◌++◌, length, take, drop, map, filter, not, is_some, ◌||◌, Option, Some, None, ◌&&◌, ◌==◌, nat_le, nat_lt, if◌then◌else◌}
+use Rattle.std.specs.Prelude.{ℕ, zero, suc, ◌+◌, ◌-◌, Bool, false, List, [], ◌∷◌, ◌++◌, length, take, drop, map, filter, not, is_some, ◌||◌, Option, Some, None, ◌&&◌, ◌==◌, nat_le, nat_lt, if◌then◌else◌}
 use Rattle.std.specs.List.{flat_map}
 use Rattle.ranges_tracker.specs.Cells.{Mark, Stamp, same_mark, chosen, torn, renewed, count, fresh_mark, squashed, raised}
 use Rattle.ranges_tracker.specs.Shown.{change, mark_of, packed, touch, same_kind, merged}
@@ -54,10 +54,6 @@ new_insert at (u ∷ us) (Some m) = change Inserted at (u ∷ us) m ∷ []
 abbrev pub renewed_in : Option Mark → Stamp → ℕ → List Change → List Change
 renewed_in None stamp k cs = cs
 renewed_in (Some old) stamp k cs = map (exchanged_in old (renewed old stamp k)) cs
-
--- a change with a mark from before the update's mark number k
-abbrev pub IsOlder : ℕ → ℕ → Change → Type 0
-IsOlder version k c = (c.version ≤ version) × (c.version ≡ version → c.k < k)
 
 -- changes, and the count of fresh marks then
 pub record Marked : Type 0 where

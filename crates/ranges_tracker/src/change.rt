@@ -68,20 +68,24 @@ impl Change {
         })
     }
 
+    // Whether its mark has this id, user and moment.
+    fn is_marked(&self, version: u64, k: u32, user: &Name, ms: u64) -> bool
+        ensures { result ≡ same_mark (mark_of self.now) (record { version = version; k = k; user = user.now; ms = ms }) }
+    {
+        self.version == version
+            && (self.k == k && (self.ms == ms && self.user.as_str() == user.as_str()))
+    }
+
     pub(crate) fn has_mark_of(&self, other: &Change) -> bool
         ensures { result ≡ same_mark (mark_of self.now) (mark_of other.now) }
     {
-        self.version == other.version
-            && (self.k == other.k
-                && (self.ms == other.ms && self.user.as_str() == other.user.as_str()))
+        self.is_marked(other.version, other.k, &other.user, other.ms)
     }
 
     pub(crate) fn bears(&self, mark: &Mark) -> bool
         ensures { result ≡ same_mark (mark_of self.now) mark.now }
     {
-        self.version == mark.version
-            && (self.k == mark.k
-                && (self.ms == mark.ms && self.user.as_str() == mark.user.as_str()))
+        self.is_marked(mark.version, mark.k, &mark.user, mark.ms)
     }
 
     pub(crate) fn mark(&self, alloc: Global) -> Result<Mark, AllocError>
@@ -95,11 +99,18 @@ impl Change {
         })
     }
 
+    // The place behind its text, where that stands.
+    pub(crate) fn end(&self) -> usize
+        ensures { result ≡ self.now.at + length self.now.text }
+    {
+        self.at as usize + self.text.len()
+    }
+
     pub(crate) fn reach(&self) -> usize
         ensures { result ≡ Rattle.ranges_tracker.specs.Shown.reach self.now }
     {
         match self.kind {
-            ChangeKind::Inserted => self.at as usize + self.text.len(),
+            ChangeKind::Inserted => self.end(),
             ChangeKind::Deleted => self.at as usize,
         }
     }
@@ -107,7 +118,7 @@ impl Change {
     pub(crate) fn covers(&self, i: u32) -> bool
         ensures { result ≡ (nat_le self.now.at i && nat_lt i (self.now.at + length self.now.text)) }
     {
-        self.at <= i && (i as usize) < self.at as usize + self.text.len()
+        self.at <= i && (i as usize) < self.end()
     }
 
     // Whether the other one goes on where this one ends, under the same mark.

@@ -4,6 +4,7 @@ ghost use Rattle.std.specs.Prelude.{◌≡◌, ◌≤◌, ◌<◌, ◌+◌, ◌-
 ghost use Rattle.std.specs.List.{All};
 ghost use Rattle.ot_op.specs.Operation.{place};
 ghost use Rattle.ranges_tracker.specs.Cells.{fresh_mark, raised, squashed};
+ghost use Rattle.ranges_tracker.specs.Ordered.{Lined, Rising};
 ghost use Rattle.ranges_tracker.specs.Tracked.{some_bare, mixed_in, kept, placed, new_delete, delete_in};
 
 use crate::change::copy_at;
@@ -61,38 +62,30 @@ pub(crate) fn squash(at: u32, len: u32, gap: u32) -> u32
     }
 }
 
-fn squash_all(
-    alloc: Global,
-    deletes: &[Change],
-    at: u32,
-    len: u32,
-) -> Result<Vec<Change>, AllocError>
-    requires { at + len < 2 ^ 32 }
-    ensures { IfOk result (λ made. made.items ≡ map (placed (squashed at len)) deletes.now) }
+fn lift(at: u32, len: u32, gap: u32) -> u32
+    requires { gap + len < 2 ^ 32 }
+    ensures { result ≡ raised at len gap }
 {
-    let mut made = Vec::new(alloc);
-    for d in deletes {
-        made.push(copy_at(alloc, d, squash(at, len, d.at))?)?;
+    if at <= gap { gap + len } else { gap }
+}
+
+fn squash_all(deletes: &mut [Change], at: u32, len: u32)
+    requires { at + len < 2 ^ 32 }
+    ensures { deletes.new ≡ map (placed (squashed at len)) deletes.old }
+{
+    for d in deletes.iter_mut() {
+        d.at = squash(at, len, d.at);
     }
-    Ok(made)
 }
 
 // The deletes after an insert.
-pub(crate) fn lift_all(
-    alloc: Global,
-    deletes: &[Change],
-    at: u32,
-    len: u32,
-) -> Result<Vec<Change>, AllocError>
-    requires { All (λ d. d.at + len < 2 ^ 32) deletes.now }
-    ensures { IfOk result (λ made. made.items ≡ map (placed (raised at len)) deletes.now) }
+pub(crate) fn lift_all(deletes: &mut [Change], at: u32, len: u32)
+    requires { All (λ d. d.at + len < 2 ^ 32) deletes.old }
+    ensures { deletes.new ≡ map (placed (raised at len)) deletes.old }
 {
-    let mut made = Vec::new(alloc);
-    for d in deletes {
-        let place = if at <= d.at { d.at + len } else { d.at };
-        made.push(copy_at(alloc, d, place)?)?;
+    for d in deletes.iter_mut() {
+        d.at = lift(at, len, d.at);
     }
-    Ok(made)
 }
 
 fn push_delete(
@@ -123,7 +116,8 @@ fn push_delete(
 
 // Whether a delete takes over what is gone around it, under a fresh mark.
 fn is_fresh(stamp: &Stamp, inserts: &[Change], at: u32, part: &[u16]) -> bool
-    requires { at + length part.now < 2 ^ 32 }
+    requires place { at + length part.now < 2 ^ 32 }
+    requires lined { Lined 0 inserts.now }
     ensures { result ≡ (stamp.now.track && some_bare at part.now inserts.now) }
 {
     stamp.track && some_bare(inserts, at, part)
@@ -139,11 +133,13 @@ fn take_over(
     stamp: &Stamp,
     k: u32,
 ) -> Result<Vec<Change>, AllocError>
-    requires { at + length part.now < 2 ^ 32 }
+    requires place { at + length part.now < 2 ^ 32 }
+    requires lined { Lined 0 inserts.now }
+    requires rising { Rising 0 deletes.now }
     ensures { IfOk result (λ made. made.items ≡ kept (λ x. nat_lt x at) deletes.now ++ (new_delete at (mixed_in at part.now inserts.now deletes.now) (fresh_mark stamp.now k) ++ map (placed (λ x. x - length part.now)) (kept (λ x. nat_lt (at + length part.now) x) deletes.now))) }
 {
     let len = part.len() as u32;
-    let text = mixed_in(alloc, inserts, deletes, at, part)?;
+    let text = mixed_in(alloc, inserts, deletes, at, part.as_slice())?;
     let mut made = Vec::new(alloc);
     push_below(alloc, &mut made, deletes, at)?;
     push_delete(alloc, &mut made, at, text, stamp, k)?;
@@ -155,7 +151,7 @@ fn take_over(
 pub(crate) fn delete_in(
     alloc: Global,
     inserts: &[Change],
-    deletes: &[Change],
+    deletes: Vec<Change>,
     at: u32,
     part: &Units,
     stamp: &Stamp,
@@ -163,17 +159,18 @@ pub(crate) fn delete_in(
 ) -> Result<Counted, AllocError>
     requires place { at + length part.now < 2 ^ 32 }
     requires few { marks + 2 < 2 ^ 32 }
-    ensures changes { IfOk result (λ r. r.changes.items ≡ (delete_in inserts.now deletes.now at part.now stamp.now marks).changes) }
-    ensures marks { IfOk result (λ r. r.marks ≡ (delete_in inserts.now deletes.now at part.now stamp.now marks).marks) }
+    requires lined { Lined 0 inserts.now }
+    requires rising { Rising 0 deletes.items }
+    ensures changes { IfOk result (λ r. r.changes.items ≡ (delete_in inserts.now deletes.items at part.now stamp.now marks).changes) }
+    ensures marks { IfOk result (λ r. r.marks ≡ (delete_in inserts.now deletes.items at part.now stamp.now marks).marks) }
 {
     if is_fresh(stamp, inserts, at, part.as_slice()) {
         return Ok(Counted {
-            changes: take_over(alloc, inserts, deletes, at, part, stamp, marks)?,
+            changes: take_over(alloc, inserts, &deletes, at, part, stamp, marks)?,
             marks: marks + 1,
         });
     }
-    Ok(Counted {
-        changes: squash_all(alloc, deletes, at, part.len() as u32)?,
-        marks,
-    })
+    let mut changes = deletes;
+    squash_all(&mut changes, at, part.len() as u32);
+    Ok(Counted { changes, marks })
 }

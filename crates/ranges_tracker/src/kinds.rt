@@ -1,11 +1,13 @@
 //! Changes of one kind, and both kinds in one order.
 
-ghost use Rattle.std.specs.Prelude.{◌≡◌, ◌≤◌, ◌+◌, ◌++◌, length, drop, filter, IfOk, OnOk};
+ghost use Rattle.std.specs.Prelude.{◌≡◌, ◌++◌, filter, IfOk, OnOk};
+ghost use Rattle.ranges_tracker.specs.Ordered.{starts_by};
 ghost use Rattle.ranges_tracker.specs.Shown.{same_kind, merged, up_to, past};
 
 use crate::change::same_kind;
 use crate::{Change, ChangeKind};
 use std::alloc::{AllocError, Global};
+use std::collections::VecDeque;
 
 // The changes of one kind.
 pub(crate) fn of_kind(
@@ -24,46 +26,49 @@ pub(crate) fn of_kind(
     Ok(made)
 }
 
-// The deletes from one on, up to a place; answers with the first that is left.
-fn push_up_to(
-    alloc: Global,
-    made: &mut Vec<Change>,
-    deletes: &[Change],
-    from: usize,
-    at: u32,
-) -> Result<usize, AllocError>
-    requires { from ≤ length deletes.now }
-    ensures front { OnOk result (made.new.items ≡ made.old.items ++ up_to at (drop from deletes.now)) }
-    ensures rest { IfOk result (λ k. drop k deletes.now ≡ past at (drop from deletes.now)) }
-    ensures within { IfOk result (λ k. k ≤ length deletes.now) }
+fn starts_by(rest: &VecDeque<Change>, at: u32) -> bool
+    ensures { result ≡ starts_by at rest.now.items }
 {
-    let mut k = from;
-    'turns: while k < deletes.len() {
-        let d = &deletes[k];
-        if d.at > at {
-            return Ok(k);
-        }
-        made.push(d.copy(alloc)?)?;
-        k += 1;
+    match rest.front() {
+        None => false,
+        Some(first) => first.at <= at,
     }
-    Ok(k)
+}
+
+// Moves the deletes up to a place behind others.
+fn move_up_to(
+    made: &mut Vec<Change>,
+    rest: &mut VecDeque<Change>,
+    at: u32,
+) -> Result<(), AllocError>
+    ensures front { OnOk result (made.new.items ≡ made.old.items ++ up_to at rest.old.items) }
+    ensures rest { OnOk result (rest.new.items ≡ past at rest.old.items) }
+{
+    'turns: while starts_by(rest, at) {
+        if let Some(first) = rest.pop_front() {
+            made.push(first)?;
+        }
+    }
+    Ok(())
 }
 
 // Inserts and deletes in their order.
 pub(crate) fn merge(
     alloc: Global,
-    inserts: &[Change],
-    deletes: &[Change],
+    inserts: Vec<Change>,
+    deletes: Vec<Change>,
 ) -> Result<Vec<Change>, AllocError>
-    ensures { IfOk result (λ made. made.items ≡ merged inserts.now deletes.now) }
+    ensures { IfOk result (λ made. made.items ≡ merged inserts.items deletes.items) }
 {
     let mut made = Vec::new(alloc);
-    let mut j = 0;
+    let mut rest = VecDeque::from(deletes);
     for i in inserts {
-        j = push_up_to(alloc, &mut made, deletes, j, i.at)?;
-        made.push(i.copy(alloc)?)?;
+        move_up_to(&mut made, &mut rest, i.at)?;
+        made.push(i)?;
     }
-    push_rest(alloc, &mut made, &deletes[j..])?;
+    for d in rest {
+        made.push(d)?;
+    }
     Ok(made)
 }
 

@@ -103,7 +103,7 @@ pub(crate) fn push_tails(
     ensures { OnOk result (made.new.items ≡ pushed_all made.old.items (flat_map (λ c. tail_by torn.now from to c) inserts.now)) }
 {
     for c in inserts {
-        if (from as usize) < c.at as usize + c.text.len() {
+        if (from as usize) < c.end() {
             let mut part = tail_of(alloc, c, from, to)?;
             renumber(&mut part, torn);
             push_packed(made, part)?;

@@ -1,12 +1,12 @@
 //! What the calls answer with ample memory, on small texts worked by hand.
 
-ghost use Rattle.std.specs.Prelude.{◌≡◌, ◌∷◌, [], ◌<◌, ◌+◌, ◌^◌, nat_lt, length, true, false, IfOk, IsTrue};
-ghost use Rattle.std.specs.List.{All, list_all};
-ghost use Rattle.ot_op.specs.Operation.{is_void, place, units_of};
+ghost use Rattle.std.specs.Prelude.{◌≡◌, ◌∷◌, [], ◌<◌, ◌+◌, ◌^◌, length, false, IfOk, IsTrue};
+ghost use Rattle.ot_op.specs.Operation.{is_void, units_of};
+ghost use Rattle.ranges_tracker.specs.Steady.{AreOf};
 
-use crate::{Change, ChangeKind, Comment, Ranges, Stamp, track, track_op};
+use crate::{Change, ChangeKind, Comment, KeptDoc, Ranges, Stamp, track, track_op};
 use Kind::{Comments, Deletes, Inserts};
-use ot_op::{Comp, Op};
+use ot_op::{Comp, Op, apply};
 use ot_units::{Name, Units};
 use std::alloc::{AllocError, Global};
 use std::process::Abort;
@@ -28,13 +28,23 @@ type Shown = (u64, u32, ChangeKind, u32, &'static str, &'static str);
 /// The place and the text of a comment.
 type Noted = (u32, &'static str);
 
-/// Updates by versions from 0, and the changes and comments then.
-const ROWS: [(&[Row], &[Shown], &[Noted]); 7] = [
+/// A text, updates by versions from 0, and the text, the changes and the comments then.
+type Case = (
+    &'static str,
+    &'static [Row],
+    &'static str,
+    &'static [Shown],
+    &'static [Noted],
+);
+
+const CASES: [Case; 26] = [
     (
+        "ab",
         &[
             ("alice", true, Inserts, 1, "XZ"),
             ("bob", true, Inserts, 2, "Y"),
         ],
+        "aXYZb",
         &[
             (0, 0, ChangeKind::Inserted, 1, "X", "alice"),
             (1, 0, ChangeKind::Inserted, 2, "Y", "bob"),
@@ -43,23 +53,29 @@ const ROWS: [(&[Row], &[Shown], &[Noted]); 7] = [
         &[],
     ),
     (
+        "abc",
         &[
             ("alice", true, Inserts, 1, "X"),
             ("alice", true, Inserts, 2, "Y"),
         ],
+        "aXYbc",
         &[(0, 0, ChangeKind::Inserted, 1, "XY", "alice")],
         &[],
     ),
     (
+        "abcd",
         &[("u", true, Deletes, 1, "b"), ("u", true, Deletes, 0, "ac")],
+        "d",
         &[(1, 0, ChangeKind::Deleted, 0, "abc", "u")],
         &[],
     ),
     (
+        "",
         &[
             ("alice", true, Inserts, 0, "abcd"),
             ("bob", false, Inserts, 2, "X"),
         ],
+        "abXcd",
         &[
             (0, 0, ChangeKind::Inserted, 0, "ab", "alice"),
             (1, 0, ChangeKind::Inserted, 3, "cd", "alice"),
@@ -67,92 +83,298 @@ const ROWS: [(&[Row], &[Shown], &[Noted]); 7] = [
         &[],
     ),
     (
+        "",
         &[
             ("alice", true, Inserts, 0, "abcd"),
             ("bob", false, Inserts, 2, "X"),
             ("bob", true, Deletes, 0, "abXcd"),
         ],
+        "",
         &[(2, 0, ChangeKind::Deleted, 0, "X", "bob")],
         &[],
     ),
     (
+        "abcde",
         &[
             ("u", false, Comments, 1, "bcd"),
             ("u", false, Inserts, 2, "X"),
         ],
+        "abXcde",
         &[],
         &[(1, "bXcd")],
     ),
     (
+        "abcde",
         &[
             ("u", false, Comments, 1, "bcd"),
             ("u", false, Inserts, 2, "X"),
             ("u", false, Deletes, 0, "abXcde"),
         ],
+        "",
         &[],
         &[(0, "")],
     ),
+    (
+        "ab",
+        &[("u", true, Inserts, 0, "X"), ("u", false, Inserts, 1, "Y")],
+        "XYab",
+        &[(0, 0, ChangeKind::Inserted, 0, "X", "u")],
+        &[],
+    ),
+    (
+        "abc",
+        &[
+            ("u", true, Deletes, 1, "b"),
+            ("alice", false, Inserts, 1, "X"),
+        ],
+        "aXc",
+        &[(0, 0, ChangeKind::Deleted, 2, "b", "u")],
+        &[],
+    ),
+    (
+        "abc",
+        &[("u", true, Deletes, 1, "b"), ("u", true, Inserts, 1, "X")],
+        "aXc",
+        &[
+            (1, 0, ChangeKind::Inserted, 1, "X", "u"),
+            (0, 0, ChangeKind::Deleted, 2, "b", "u"),
+        ],
+        &[],
+    ),
+    (
+        "abc",
+        &[
+            ("alice", true, Inserts, 1, "XY"),
+            ("bob", true, Deletes, 1, "XYb"),
+        ],
+        "ac",
+        &[(1, 0, ChangeKind::Deleted, 1, "b", "bob")],
+        &[],
+    ),
+    (
+        "abcd",
+        &[
+            ("alice", true, Deletes, 1, "b"),
+            ("bob", true, Deletes, 1, "c"),
+        ],
+        "ad",
+        &[(1, 0, ChangeKind::Deleted, 1, "bc", "bob")],
+        &[],
+    ),
+    (
+        "abcd",
+        &[
+            ("alice", true, Deletes, 1, "b"),
+            ("bob", false, Deletes, 1, "c"),
+        ],
+        "ad",
+        &[(0, 0, ChangeKind::Deleted, 1, "b", "alice")],
+        &[],
+    ),
+    (
+        "abcd",
+        &[
+            ("u", true, Deletes, 1, "b"),
+            ("u", true, Deletes, 2, "d"),
+            ("u", false, Deletes, 1, "c"),
+        ],
+        "a",
+        &[
+            (0, 0, ChangeKind::Deleted, 1, "b", "u"),
+            (1, 0, ChangeKind::Deleted, 1, "d", "u"),
+        ],
+        &[],
+    ),
+    (
+        "ab",
+        &[
+            ("alice", true, Inserts, 1, "Y"),
+            ("alice", true, Inserts, 1, "X"),
+        ],
+        "aXYb",
+        &[(0, 0, ChangeKind::Inserted, 1, "XY", "alice")],
+        &[],
+    ),
+    (
+        "ab",
+        &[
+            ("alice", true, Inserts, 1, "X"),
+            ("bob", false, Inserts, 2, "-"),
+            ("alice", true, Inserts, 3, "Y"),
+            ("alice", false, Deletes, 2, "-"),
+            ("alice", true, Inserts, 2, "Z"),
+        ],
+        "aXZYb",
+        &[
+            (0, 0, ChangeKind::Inserted, 1, "XZ", "alice"),
+            (2, 0, ChangeKind::Inserted, 3, "Y", "alice"),
+        ],
+        &[],
+    ),
+    (
+        "",
+        &[
+            ("alice", true, Inserts, 0, "abcd"),
+            ("alice", true, Inserts, 2, "X"),
+        ],
+        "abXcd",
+        &[(0, 0, ChangeKind::Inserted, 0, "abXcd", "alice")],
+        &[],
+    ),
+    (
+        "",
+        &[
+            ("alice", true, Inserts, 0, "abcd"),
+            ("bob", true, Inserts, 2, "X"),
+        ],
+        "abXcd",
+        &[
+            (0, 0, ChangeKind::Inserted, 0, "ab", "alice"),
+            (1, 0, ChangeKind::Inserted, 2, "X", "bob"),
+            (1, 1, ChangeKind::Inserted, 3, "cd", "alice"),
+        ],
+        &[],
+    ),
+    (
+        "",
+        &[
+            ("alice", true, Inserts, 0, "abcd"),
+            ("bob", true, Inserts, 2, "X"),
+            ("bob", true, Deletes, 2, "X"),
+        ],
+        "abcd",
+        &[
+            (0, 0, ChangeKind::Inserted, 0, "ab", "alice"),
+            (1, 1, ChangeKind::Inserted, 2, "cd", "alice"),
+        ],
+        &[],
+    ),
+    (
+        "x",
+        &[
+            ("alice", true, Deletes, 0, "x"),
+            ("alice", true, Inserts, 0, "Y"),
+            ("bob", true, Deletes, 0, "Y"),
+        ],
+        "",
+        &[(0, 0, ChangeKind::Deleted, 0, "x", "alice")],
+        &[],
+    ),
+    (
+        "abcde",
+        &[
+            ("u", false, Comments, 1, "bcd"),
+            ("u", false, Inserts, 1, "X"),
+        ],
+        "aXbcde",
+        &[],
+        &[(2, "bcd")],
+    ),
+    (
+        "abcde",
+        &[
+            ("u", false, Comments, 1, "bcd"),
+            ("u", false, Inserts, 4, "X"),
+        ],
+        "abcdXe",
+        &[],
+        &[(1, "bcd")],
+    ),
+    (
+        "abcde",
+        &[
+            ("u", false, Comments, 1, "b"),
+            ("u", false, Comments, 2, "cd"),
+        ],
+        "abcde",
+        &[],
+        &[(2, "cd")],
+    ),
+    (
+        "abcde",
+        &[("u", false, Comments, 2, ""), ("u", false, Inserts, 2, "X")],
+        "abXcde",
+        &[],
+        &[(3, "")],
+    ),
+    (
+        "abcde",
+        &[
+            ("u", false, Comments, 1, "bcd"),
+            ("u", false, Deletes, 0, "ab"),
+        ],
+        "cde",
+        &[],
+        &[(0, "cd")],
+    ),
+    (
+        "abcde",
+        &[
+            ("u", false, Comments, 1, "bcd"),
+            ("u", true, Deletes, 2, "c"),
+        ],
+        "abde",
+        &[(1, 0, ChangeKind::Deleted, 2, "c", "u")],
+        &[(1, "bd")],
+    ),
 ];
 
-/// Above all places and lengths of the rows.
-const SMALL: u32 = 1_000;
-
-fn is_low(at: u32) -> bool
-    ensures { result ≡ nat_lt at 1000 }
-{
-    at < SMALL
-}
-
-fn are_low(changes: &[Change]) -> bool
-    ensures { result ≡ list_all (λ c. nat_lt c.at 1000) changes.now }
-{
-    changes.iter().all(|c| is_low(c.at))
-}
-
-fn are_low_notes(comments: &[Comment]) -> bool
-    ensures { result ≡ list_all (λ c. nat_lt c.at 1000) comments.now }
-{
-    comments.iter().all(|c| is_low(c.at))
-}
-
-fn is_small(comp: &Comp) -> bool
-    ensures place { IsTrue result → place comp.now < 1000 }
-    ensures units { IsTrue result → units_of comp.now < 1000 }
-{
-    match comp {
-        Comp::Ins(at, part) | Comp::Del(at, part) | Comp::Com(at, part, _) => {
-            is_low(*at) && part.len() < SMALL as usize
-        }
-    }
-}
-
-#[tactic(auto, using(crate::proofs::Small::changes_fit, crate::proofs::Small::comments_fit))]
-fn track_small(alloc: Global, ranges: Ranges, comp: &Comp, stamp: &Stamp) -> Result<Ranges, Fail> {
-    if !is_small(comp) {
-        return Ok(ranges);
-    }
-    if !are_low(ranges.changes()) {
-        return Ok(ranges);
-    }
-    if !are_low_notes(ranges.comments()) {
-        return Ok(ranges);
-    }
-    let mut marks = 0;
-    let made = track(alloc, ranges, &mut marks, comp, stamp).map_err(|(full, _)| full)?;
-    Ok(made)
-}
+/// Above all lengths of the cases.
+const SMALL: usize = 1_000;
 
 fn name(alloc: Global, text: &str) -> Result<Name, Fail> {
     let name = Name::read(alloc, text)?.ok_or("a name")?;
     Ok(name)
 }
 
+fn is_small(text: &Units, comp: &Comp) -> bool
+    ensures void { IsTrue result → is_void comp.now ≡ false }
+    ensures room { IsTrue result → length text.now + units_of comp.now < 2 ^ 32 }
+{
+    let units = match comp {
+        Comp::Ins(_, part) | Comp::Del(_, part) | Comp::Com(_, part, _) => part.len(),
+    };
+    !comp.is_void() && (text.len() < SMALL && units < SMALL)
+}
+
+fn one(alloc: Global, comp: Comp) -> Result<Op, Fail>
+    requires { is_void comp ≡ false }
+    ensures { IfOk result (λ made. made ≡ comp ∷ []) }
+{
+    let mut op = Op::empty(alloc);
+    op.push(comp).map_err(|(full, _)| full)?;
+    Ok(op)
+}
+
+// Applies an update of one component, and tracks it.
 fn update(
     alloc: Global,
     ranges: Ranges,
-    version: u64,
-    (user, track, kind, at, text): Row,
-) -> Result<Ranges, Fail> {
+    text: &mut Units,
+    comp: Comp,
+    stamp: &Stamp,
+) -> Result<Ranges, Fail>
+    requires { AreOf ranges text.old stamp.now.version }
+    ensures { IfOk result (λ made. AreOf made text.new (stamp.now.version + 1)) }
+{
+    if !is_small(text, &comp) {
+        return Err(Fail::from("a small case"));
+    }
+    let op = one(alloc, comp)?;
+    let Ok(()) = apply(text, &op) else {
+        return Err(Fail::from("a case that applies"));
+    };
+    let mut marks = 0;
+    match track(alloc, ranges, &mut marks, &op.comps()[0], stamp) {
+        Ok(made) => Ok(made),
+        Err((full, _)) => Err(Fail::from(full)),
+    }
+}
+
+fn read(alloc: Global, version: u64, row: Row) -> Result<(Comp, Stamp), Fail>
+    ensures { IfOk result (λ made. made.1.version ≡ version) }
+{
+    let (user, track, kind, at, text) = row;
     let part = Units::sanitized(alloc, text)?;
     let comp = match kind {
         Inserts => Comp::Ins(at, part),
@@ -165,7 +387,7 @@ fn update(
         ms: 5,
         track,
     };
-    track_small(alloc, ranges, &comp, &stamp)
+    Ok((comp, stamp))
 }
 
 fn shown(alloc: Global, changes: &[Shown], notes: &[Noted]) -> Result<Ranges, Fail> {
@@ -192,16 +414,27 @@ fn shown(alloc: Global, changes: &[Shown], notes: &[Noted]) -> Result<Ranges, Fa
     Ok(Ranges::of(made, comments))
 }
 
-fn track_row(
+// The ranges after updates by versions from 0.
+fn track_all(alloc: Global, text: &mut Units, rows: &[Row]) -> Result<Ranges, Fail> {
+    let mut ranges = Ranges::none(alloc);
+    let mut version = 0;
+    for row in rows {
+        let (comp, stamp) = read(alloc, version, *row)?;
+        ranges = update(alloc, ranges, text, comp, &stamp)?;
+        version += 1;
+    }
+    Ok(ranges)
+}
+
+fn track_case(
     rt: &impl Abort,
     alloc: Global,
-    (rows, changes, notes): (&[Row], &[Shown], &[Noted]),
+    (start, rows, end, changes, notes): Case,
 ) -> Result<(), Fail> {
-    let mut ranges = Ranges::none(alloc);
-    for (version, row) in rows.iter().enumerate() {
-        ranges = update(alloc, ranges, version as u64, *row)?;
-    }
+    let mut text = Units::sanitized(alloc, start)?;
+    let ranges = track_all(alloc, &mut text, rows)?;
     let want = shown(alloc, changes, notes)?;
+    assert_eq!(rt; text, Units::sanitized(alloc, end)?);
     assert_eq!(rt; ranges.changes(), want.changes());
     assert_eq!(rt; ranges.comments(), want.comments());
     let copy = ranges.copy(alloc)?;
@@ -212,8 +445,8 @@ fn track_row(
 
 #[test]
 fn tracks(rt: HostRuntime) -> Result<(), Fail> {
-    for row in ROWS {
-        track_row(&rt, rt.alloc(), row)?;
+    for case in CASES {
+        track_case(&rt, rt.alloc(), case)?;
     }
     Ok(())
 }
@@ -253,5 +486,56 @@ fn tracks_an_operation(rt: HostRuntime) -> Result<(), Fail> {
     let want = shown(alloc, &[(3, 0, ChangeKind::Inserted, 0, "b", "u")], &[])?;
     assert_eq!(rt; made.changes(), want.changes());
     assert_eq!(rt; made.comments(), want.comments());
+    Ok(())
+}
+
+// `a`, a line feed and `b`, of which `b` was put in and `a` has a comment.
+fn keep_marked(alloc: Global, user: Name) -> Result<KeptDoc, Fail> {
+    let mut changes = Vec::new(alloc);
+    changes.push(Change {
+        version: 2,
+        k: 0,
+        at: 2,
+        kind: ChangeKind::Inserted,
+        text: Units::from_slice(alloc, &[0x62])?,
+        user,
+        ms: 5,
+    })?;
+    let mut comments = Vec::new(alloc);
+    comments.push(Comment {
+        thread: 7,
+        at: 0,
+        text: Units::from_slice(alloc, &[0x61])?,
+    })?;
+    let ranges = Ranges::of(changes, comments);
+    let text = Units::from_slice(alloc, &[0x61, 0x0A, 0x62])?;
+    let doc = KeptDoc::make(alloc, text.as_slice(), 3, &ranges)?;
+    Ok(doc)
+}
+
+#[test]
+fn keeps_lines(rt: HostRuntime) -> Result<(), Fail> {
+    let alloc = rt.alloc();
+    let doc = keep_marked(alloc, name(alloc, "u")?)?;
+    let copy = doc.copy(alloc)?;
+    let want = shown(
+        alloc,
+        &[(2, 0, ChangeKind::Inserted, 2, "b", "u")],
+        &[(0, "a")],
+    )?;
+    for kept in [&doc, &copy] {
+        let mut lines = Vec::new(alloc);
+        for line in kept.lines().as_slice() {
+            lines.push(line.to_text(alloc)?)?;
+        }
+        assert_eq!(rt; lines.len(), 2);
+        assert_eq!(rt; lines[0].as_str(), "a");
+        assert_eq!(rt; lines[1].as_str(), "b");
+        assert_eq!(rt; kept.version(), 3);
+        assert_eq!(rt; kept.ranges().changes(), want.changes());
+        assert_eq!(rt; kept.ranges().comments(), want.comments());
+        let text = kept.text(alloc)?;
+        assert_eq!(rt; text.as_slice(), [0x61, 0x0A, 0x62].as_slice());
+    }
     Ok(())
 }

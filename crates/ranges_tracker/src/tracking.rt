@@ -1,11 +1,9 @@
 //! `track` and `track_op`, the ranges after a component and after an operation.
 
-ghost use Rattle.std.specs.Prelude.{◌≡◌, ◌<◌, ◌+◌, ◌^◌, IfOk, OnOk, OnErr, IfErr};
-ghost use Rattle.std.specs.List.{All};
-ghost use Rattle.ot_op.specs.Operation.{place, units_of};
+ghost use Rattle.std.specs.Prelude.{◌≡◌, IfOk, OnOk, OnErr, IfErr};
 ghost use Rattle.ranges_tracker.specs.Tracked.{changes_in};
-ghost use Rattle.ranges_tracker.specs.Ready.{ranges_in, ranges_all, IsStepOf};
-ghost use Rattle.ranges_tracker.specs.Steady.{IsFit, IsStepsOf};
+ghost use Rattle.ranges_tracker.specs.Ranged.{ranges_in, ranges_all, Roomy};
+ghost use Rattle.ranges_tracker.specs.Steady.{IsFit, IsFitStep, IsStepOf, IsStepsOf};
 
 use crate::changes::changes_after;
 use crate::comments::comments_after;
@@ -21,10 +19,7 @@ fn ranges_after(
     comp: &Comp,
     stamp: &Stamp,
 ) -> Result<Ranges, AllocError>
-    requires place { place comp.now + units_of comp.now < 2 ^ 32 }
-    requires changes { All (λ c. c.at + units_of comp.now < 2 ^ 32) ranges.now.0 }
-    requires comments { All (λ c. c.at + units_of comp.now < 2 ^ 32) ranges.now.1 }
-    requires few { marks.old + 2 < 2 ^ 32 }
+    requires { Roomy ranges.now comp.now marks.old }
     ensures value { IfOk result (λ r. r ≡ ranges_in ranges.now comp.now stamp.now marks.old) }
     ensures marks { OnOk result (marks.new ≡ (changes_in ranges.now.0 comp.now stamp.now marks.old).marks) }
     ensures err { OnErr result (marks.new ≡ marks.old) }
@@ -36,7 +31,8 @@ fn ranges_after(
 }
 
 /// What one component of an update makes of the ranges. `marks` counts the update's fresh marks
-/// before and after it. Where memory is wanting, the ranges come back and `marks` stays.
+/// before and after it. Where memory is wanting, the ranges come back and `marks` stays. The ranges
+/// are those of a text to which the component applies.
 ///
 /// An insert that is tracked takes the mark of its user that it touches, first the one before it, or
 /// a fresh one; where it parts the units of another mark, those behind it get a fresh mark with that
@@ -51,10 +47,7 @@ pub fn track(
     comp: &Comp,
     stamp: &Stamp,
 ) -> Result<Ranges, (AllocError, Ranges)>
-    requires place { place comp.now + units_of comp.now < 2 ^ 32 }
-    requires changes { All (λ c. c.at + units_of comp.now < 2 ^ 32) ranges.0 }
-    requires comments { All (λ c. c.at + units_of comp.now < 2 ^ 32) ranges.1 }
-    requires few { marks.old + 2 < 2 ^ 32 }
+    requires { IsFitStep ranges comp.now stamp.now marks.old }
     ensures step { IfOk result (λ r. IsStepOf ranges comp.now stamp.now marks.old r marks.new) }
     ensures value { IfOk result (λ r. r ≡ ranges_in ranges comp.now stamp.now marks.old) }
     ensures err { OnErr result (marks.new ≡ marks.old) }

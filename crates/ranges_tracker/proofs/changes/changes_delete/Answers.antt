@@ -1,4 +1,4 @@
-use Rattle.std.proofs.Common.{◌+◌, ◌<◌, ◌∙◌, length, arith, get_or}
+use Rattle.std.proofs.Common.{◌∙◌, length, arith}
 use Rattle.ranges_tracker.specs.declared.change.ChangeKind.TheVariants.{Inserted}
 use Rattle.ranges_tracker.proofs.Rooms.{room_of}
 use Rattle.ranges_tracker.proofs.changes.changes_delete.Goals as goal

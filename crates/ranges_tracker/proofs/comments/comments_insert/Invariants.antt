@@ -1,5 +1,5 @@
-use Rattle.std.proofs.Common.{◌≡◌, ◌+◌, ◌-◌, ◌++◌, ◌≤◌, length, drop, take, map}
-use Rattle.ranges_tracker.specs.Commented.{comment_past, comment_without, comment_set}
+use Rattle.std.proofs.Common.{◌≡◌, ◌++◌, drop, map}
+use Rattle.ranges_tracker.specs.Commented.{comment_past}
 use Rattle.ot_op.specs.declared.comp.Comp.TheVariants.{Ins}
 use Rattle.ranges_tracker.proofs.comments.comments_insert.Given as goal
 

@@ -1,5 +1,5 @@
-use Rattle.std.proofs.Common.{◌≡◌, ◌+◌, ◌-◌, ◌++◌, ◌≤◌, length, drop, take, map}
-use Rattle.ranges_tracker.specs.Commented.{comment_past, comment_without, comment_set}
+use Rattle.std.proofs.Common.{◌≡◌, ◌++◌, drop}
+use Rattle.ranges_tracker.specs.Commented.{comment_set}
 use Rattle.std.specs.Prelude.{if◌then◌else◌}
 use Rattle.ranges_tracker.proofs.comments.comments_set.Given as goal
 

@@ -1,4 +1,4 @@
-use Rattle.std.proofs.Common.{◌≡◌, ◌+◌, ◌-◌, ◌++◌, ◌≤◌, length, drop, take, map}
+use Rattle.std.proofs.Common.{◌≡◌, ◌++◌, drop}
 use Rattle.std.specs.Prelude.{nat_lt}
 use Rattle.ranges_tracker.specs.Tracked.{kept}
 use Rattle.ranges_tracker.proofs.deletes.push_below.Given as goal

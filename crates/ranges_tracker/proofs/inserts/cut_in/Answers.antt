@@ -1,4 +1,4 @@
-use Rattle.std.proofs.Common.{◌≡◌, ◌+◌, List, [], None, sym, ◌∙◌, ap}
+use Rattle.std.proofs.Common.{◌≡◌, ◌+◌, List, [], None, ◌∙◌, ap}
 use Rattle.std.specs.List.{flat_map}
 use Rattle.ranges_tracker.specs.declared.change.Change.{Change}
 use Rattle.ranges_tracker.specs.Tracked.{heads, pushed_all}

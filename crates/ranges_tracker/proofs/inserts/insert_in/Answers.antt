@@ -1,6 +1,5 @@
-use Rattle.std.proofs.Common.{◌≡◌, ◌+◌, List, [], length, sym, ◌∙◌, ap, Option}
+use Rattle.std.proofs.Common.{◌≡◌, ◌+◌, List, [], length, ◌∙◌, ap, Option}
 use Rattle.std.specs.List.{flat_map}
-use Rattle.ranges_tracker.specs.Cells.{torn}
 use Rattle.ranges_tracker.specs.declared.change.Change.{Change}
 use Rattle.ranges_tracker.specs.declared.mark.Torn.{Torn}
 use Rattle.ranges_tracker.specs.Tracked.{heads, new_insert, pushed_all}

@@ -1,6 +1,10 @@
-use Rattle.std.proofs.Common.{◌≡◌, ◌+◌, ◌-◌, ◌++◌, ◌≤◌, length, drop, take, map}
+use Rattle.std.proofs.Common.{◌≡◌, ◌++◌}
+use Rattle.std.specs.Vec.Iter.{into_iter_items}
 use Rattle.ranges_tracker.specs.Shown.{merged}
 use Rattle.ranges_tracker.proofs.kinds.merge.Given as goal
 
 abbrev pub invariant-loop-i : goal.invariant-loop-i
-invariant-loop-i l = record { within : l.j ≤ length l.deletes; same : l.made.items ++ merged (drop l.i-index l.inserts) (drop l.j l.deletes) ≡ merged l.inserts l.deletes }
+invariant-loop-i l = l.made.items ++ merged (into_iter_items l.i-iterator) l.rest.items ≡ merged l.fn.inserts.items l.fn.deletes.items
+
+abbrev pub invariant-loop-d : goal.invariant-loop-d
+invariant-loop-d l = l.made.items ++ into_iter_items l.d-iterator ≡ merged l.fn.inserts.items l.fn.deletes.items

@@ -1,4 +1,4 @@
-use Rattle.std.proofs.Common.{◌≡◌, ◌+◌, ◌-◌, ◌++◌, ◌≤◌, length, drop, take, map}
+use Rattle.std.proofs.Common.{◌≡◌, ◌++◌, drop}
 use Rattle.ranges_tracker.proofs.kinds.push_rest.Given as goal
 
 abbrev pub invariant-loop-d : goal.invariant-loop-d

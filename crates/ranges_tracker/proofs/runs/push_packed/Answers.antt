@@ -1,4 +1,4 @@
-use Rattle.std.proofs.Common.{◌≡◌, suc, ◌-◌, ◌∷◌, [], ◌++◌, List, ℕ, true, false, length, arith, sym, ◌∙◌, ap, get_or}
+use Rattle.std.proofs.Common.{◌≡◌, suc, ◌-◌, ◌++◌, List, ℕ, true, false, length, arith, sym, ◌∙◌, ap}
 use Rattle.ranges_tracker.specs.declared.change.Change.{Change}
 use Rattle.ranges_tracker.specs.Shown.{meets, fused}
 use Rattle.ranges_tracker.proofs.Pushing.{pushed_met, pushed_apart, put_end, same_last}

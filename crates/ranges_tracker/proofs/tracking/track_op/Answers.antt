@@ -3,7 +3,7 @@ use Rattle.std.proofs.lemmas.List.{drop_all}
 use Rattle.ot_op.specs.declared.comp.Comp.{Comp}
 use Rattle.ranges_tracker.specs.declared.change.Change.{Change}
 use Rattle.ranges_tracker.specs.declared.comment.Comment.{Comment}
-use Rattle.ranges_tracker.specs.Ready.{Ranged, ranges_all, RoomyAll}
+use Rattle.ranges_tracker.specs.Ranged.{Ranged, ranges_all, RoomyAll}
 use Rattle.ranges_tracker.proofs.Folding.{ranges_steps}
 use Rattle.ranges_tracker.proofs.Fitting.{fit_roomy}
 use Rattle.ranges_tracker.proofs.tracking.track_op.Goals as goal

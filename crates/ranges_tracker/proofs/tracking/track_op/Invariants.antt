@@ -1,5 +1,5 @@
 use Rattle.std.proofs.Common.{◌≡◌, drop}
-use Rattle.ranges_tracker.specs.Ready.{ranges_all, RoomyAll}
+use Rattle.ranges_tracker.specs.Ranged.{ranges_all, RoomyAll}
 use Rattle.ranges_tracker.proofs.tracking.track_op.Given as goal
 
 abbrev pub invariant-loop-comp : goal.invariant-loop-comp

@@ -1,0 +1,79 @@
+//! `Lines`, the lines of a text.
+
+ghost use Rattle.std.specs.Prelude.{◌≡◌, IfOk};
+ghost use Rattle.ot_parts.specs.Lines.{lines_of, joined_lines};
+ghost use Rattle.ot_units.specs.Text.{IsText};
+ghost use Rattle.ranges_tracker.specs.Kept.{AreLines};
+
+use crate::texts::push_part;
+use ot_parts::line_parts;
+use ot_units::Units;
+use std::alloc::{AllocError, Global};
+use std::marker::Model;
+
+const LINE_FEED: u16 = 0x000A;
+
+/// The lines of a text, at least one, each without its line feed, U+000A.
+#[derive(Debug, Drop)]
+pub struct Lines {
+    lines: Vec<Units>,
+}
+
+impl Model for Lines {
+    ghost use Rattle.std.specs.Prelude.{ℕ, List};
+
+    ghost Value = { List (List ℕ) };
+
+    ghost use Rattle.ranges_tracker.specs.Kept.{AreLines};
+
+    ghost view = { λ s. s.lines.items };
+
+    ghost invariant = { λ s. AreLines s.lines.items };
+}
+
+impl Lines {
+    // The lines of a text.
+    pub(crate) fn of(alloc: Global, text: &[u16]) -> Result<Lines, AllocError>
+        requires { IsText text.now }
+        ensures { IfOk result (λ made. made ≡ lines_of text.now) }
+    {
+        let mut lines = Vec::new(alloc);
+        for line in line_parts(text) {
+            lines.push(Units::from_slice(alloc, line)?)?;
+        }
+        Ok(Lines { lines })
+    }
+
+    /// The lines, in order.
+    pub fn as_slice(&self) -> &[Units]
+        ensures value { result.now ≡ self.now }
+        ensures lines { AreLines result.now }
+    {
+        self.lines.as_slice()
+    }
+
+    // A copy of these lines.
+    pub(crate) fn copy(&self, alloc: Global) -> Result<Lines, AllocError>
+        ensures { IfOk result (λ made. made ≡ self.now) }
+    {
+        let mut lines = Vec::new(alloc);
+        for line in self.as_slice() {
+            lines.push(line.copy(alloc)?)?;
+        }
+        Ok(Lines { lines })
+    }
+
+    // The text of these lines, a line feed between each two.
+    pub(crate) fn joined(&self, alloc: Global) -> Result<Units, AllocError>
+        ensures { IfOk result (λ made. made ≡ joined_lines self.now) }
+    {
+        let feed = Units::from_slice(alloc, &[LINE_FEED])?;
+        let lines = self.as_slice();
+        let mut text = lines[0].copy(alloc)?;
+        for line in &lines[1..] {
+            push_part(&mut text, &feed)?;
+            push_part(&mut text, line)?;
+        }
+        Ok(text)
+    }
+}
