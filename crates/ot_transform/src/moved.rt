@@ -9,7 +9,7 @@ use std::alloc::AllocError;
 
 /// What a component becomes past another one.
 #[derive(Debug, Drop)]
-pub enum Moved {
+pub(crate) enum Moved {
     /// The other one took all of it out.
     Nothing,
     /// It stays one component.
@@ -19,7 +19,7 @@ pub enum Moved {
 }
 
 /// Appends what a component has become.
-pub fn append_moved(op: &mut Op, moved: Moved) -> Result<(), AllocError>
+pub(crate) fn append_moved(op: &mut Op, moved: Moved) -> Result<(), AllocError>
     ensures { OnOk result (op.new ≡ composed op.old (moved_list moved)) }
 {
     match moved {
@@ -33,7 +33,7 @@ pub fn append_moved(op: &mut Op, moved: Moved) -> Result<(), AllocError>
 }
 
 /// Appends components.
-pub fn append_all(op: &mut Op, comps: Vec<Comp>) -> Result<(), AllocError>
+pub(crate) fn append_all(op: &mut Op, comps: Vec<Comp>) -> Result<(), AllocError>
     ensures { OnOk result (op.new ≡ composed op.old comps.items) }
 {
     for comp in comps {

@@ -16,7 +16,7 @@ use std::alloc::{AllocError, Global};
 
 /// What `comp` becomes past `other`, or `None` where the two say that different texts stand at one
 /// place. Of two inserts at one place the one that goes `right` comes behind the other.
-pub fn move_component(
+pub(crate) fn move_component(
     alloc: Global,
     comp: Comp,
     other: &Comp,
