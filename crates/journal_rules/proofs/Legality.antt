@@ -14,7 +14,7 @@ front (x ∷ xs) more (suc i) e at = front xs more i e at
 pub legal_front : (h more : List Entry) → IsLegal (h ++ more) → IsLegal h
 legal_front h more legal i e at =
     let l = slice_get_within h i e at in
-    subst (λ (b : List Entry). IsAllowed b e.act) (take-append-le i h more (omega (arith, l))) (legal i e (front h more i e at))
+    subst (λ (b : List Entry). IsAllowed b e.seat e.act) (take-append-le i h more (omega (arith, l))) (legal i e (front h more i e at))
 
 take_whole : (j k : List Entry) → take (length j) (j ++ k) ≡ j
 take_whole [] k = refl
@@ -24,12 +24,12 @@ pub seam : {A : Type 0} (h : List A) (e : A) (es : List A) → slice_get (h ++ e
 seam [] e es = refl
 seam (x ∷ xs) e es = seam xs e es
 
-pub allowed_next : (h : List Entry) (e : Entry) (es : List Entry) → IsLegal (h ++ e ∷ es) → IsAllowed h e.act
-allowed_next h e es legal = subst (λ (b : List Entry). IsAllowed b e.act) (take_whole h (e ∷ es)) (legal (length h) e (seam h e es))
+pub allowed_next : (h : List Entry) (e : Entry) (es : List Entry) → IsLegal (h ++ e ∷ es) → IsAllowed h e.seat e.act
+allowed_next h e es legal = subst (λ (b : List Entry). IsAllowed b e.seat e.act) (take_whole h (e ∷ es)) (legal (length h) e (seam h e es))
 
--- INDUCTION BY THE LAST ENTRY, from a prefix on
+-- induction by the last entry, from a prefix on
 abbrev pub Keeps : (List Entry → Type 0) → Type 0
-Keeps P = (h : List Entry) (e : Entry) → IsLegal h → IsAllowed h e.act → P h → P (h ++ e ∷ [])
+Keeps P = (h : List Entry) (e : Entry) → IsLegal h → IsAllowed h e.seat e.act → P h → P (h ++ e ∷ [])
 
 pub goes_on : (P : List Entry → Type 0) → Keeps P → (es h : List Entry) → IsLegal (h ++ es) → P h → P (h ++ es)
 goes_on P step [] h legal p = subst P (sym (append-nil h)) p
@@ -48,11 +48,11 @@ last_or (y ∷ ys) e zero x at = inl at
 last_or (y ∷ ys) e (suc i) x at = elim (last_or ys e i x at) as (λ _. (slice_get (y ∷ ys) (suc i) ≡ Some x) ⊎ ((suc i ≡ length (y ∷ ys)) × (x ≡ e))) [ inl h ↦ inl h | inr h ↦ inr (let k = h.0 in (omega (arith, k), h.1)) ]
 
 -- a legal journal stays legal behind an entry that it allows
-pub legal_push : (j : List Entry) (e : Entry) → IsLegal j → IsAllowed j e.act → IsLegal (j ++ e ∷ [])
+pub legal_push : (j : List Entry) (e : Entry) → IsLegal j → IsAllowed j e.seat e.act → IsLegal (j ++ e ∷ [])
 legal_push j e legal may i x at = by (last_or j e i x at)
   where
-    by : (slice_get j i ≡ Some x) ⊎ ((i ≡ length j) × (x ≡ e)) → IsAllowed (take i (j ++ e ∷ [])) x.act
-    by (inl h) = let l = slice_get_within j i x h in subst (λ (b : List Entry). IsAllowed b x.act) (sym (take-append-le i j (e ∷ []) (omega (arith, l)))) (legal i x h)
+    by : (slice_get j i ≡ Some x) ⊎ ((i ≡ length j) × (x ≡ e)) → IsAllowed (take i (j ++ e ∷ [])) x.seat x.act
+    by (inl h) = let l = slice_get_within j i x h in subst (λ (b : List Entry). IsAllowed b x.seat x.act) (sym (take-append-le i j (e ∷ []) (omega (arith, l)))) (legal i x h)
     by (inr h) =
         let here : take i (j ++ e ∷ []) ≡ j = ap (λ k. take k (j ++ e ∷ [])) h.0 ∙ take_whole j (e ∷ []) in
-        subst (λ (b : List Entry). IsAllowed b x.act) (sym here) (subst (λ (y : Entry). IsAllowed j y.act) (sym h.1) may)
+        subst (λ (b : List Entry). IsAllowed b x.seat x.act) (sym here) (subst (λ (y : Entry). IsAllowed j y.seat y.act) (sym h.1) may)

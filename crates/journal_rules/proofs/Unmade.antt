@@ -1,35 +1,56 @@
 -- A document that wasn't made has nothing; and how high a version may be.
-use Rattle.std.proofs.Common.{◌≡◌, ◌≢◌, ℕ, zero, suc, ◌+◌, ◌≤◌, List, [], ◌∷◌, ◌++◌, length, Bool, true, false, not, refl, sym, ap, ◌∙◌, subst, arith, All, ne_eqb, eqb, append-nil, length-append}
+use Rattle.std.proofs.Common.{◌≡◌, ℕ, zero, suc, ◌+◌, ◌≤◌, List, [], ◌∷◌, ◌++◌, length, Bool, true, false, not, refl, sym, ap, ⊎_elim, ◌∙◌, subst, arith, All, eqb, length-append}
 use Rattle.std.specs.Prelude.{slice_get, Option, Some, None, filter, if◌then◌else◌}
 use Rattle.std.proofs.lemmas.List.Elements.{All-append}
 use Rattle.journal_entries.specs.declared.update.Update.{Update}
 use Rattle.journal_entries.specs.declared.update.Outcome.{Outcome}
-use Rattle.journal_entries.specs.declared.update.Outcome.TheVariants.{Applied, Refused}
+use Rattle.journal_entries.specs.declared.update.Outcome.TheVariants.{Applied, Dup, Refused}
 use Rattle.journal_entries.specs.declared.act.Act.{Act}
-use Rattle.journal_entries.specs.declared.act.Act.TheVariants.{Made, Sent, Committed}
+use Rattle.journal_entries.specs.declared.act.Act.TheVariants.{Made, Committed}
 use Rattle.journal_entries.specs.declared.act.Entry.{Entry}
-use Rattle.journal_rules.specs.Documents.{Making, making_of, makings, Item, item_of, items_by, applied_list, sends, sent, committed, is_in, waiting, update_at, base, base_in, version}
-use Rattle.journal_rules.specs.Legal.{IsAllowed, IsLegal, highest_base}
-use Rattle.journal_rules.proofs.Pushing.{makings-push, makings-none, applied_list-push, applied_list-none, sent-push, sent-none}
+use Rattle.journal_rules.specs.Documents.{IsMade, Making, making_of, makings, Item, item_of, items_by, applied_list, sent, committed, is_in, waiting, update_at, base, base_in, version}
+use Rattle.journal_rules.specs.Legal.{IsAllowed, IsLegal, IsSending, IsRawUpdate, highest_base}
+use Rattle.journal_rules.proofs.Pushing.{makings-push, makings-none, applied_list-push, applied_list-none}
 use Rattle.journal_rules.proofs.Legality.{Keeps, by_last}
-use Rattle.journal_rules.proofs.Waits.{all_none, all_one, by_end, one_if}
+use Rattle.journal_rules.proofs.Waits.{all_none, all_one, by_end, update_within, SentAt, sent_facts}
+use Rattle.journal_rules.proofs.Fencing.{made_stays}
+use Rattle.journal_rules.proofs.Updates.{update_new}
+use Rattle.journal_rules.proofs.World.{sent_is}
+use Rattle.journal_rules.proofs.Everything.{world}
 
-more_makings : (h : List Entry) (e : Entry) → length (makings h) ≤ length (makings (h ++ e ∷ []))
-more_makings h e = let l = ap length (makings-push h e) ∙ length-append (makings h) (making_of e.act) in omega (arith, l)
+-- what was sent, was sent to a document that was made
+raw_made : (j : List Entry) → IsLegal j → (t : ℕ) (u : Update) → update_at j t ≡ Some u → u.client ≡ None → IsMade u.doc j
+raw_made = by_last (λ j. (t : ℕ) (u : Update) → update_at j t ≡ Some u → u.client ≡ None → IsMade u.doc j) none more
+  where
+    none : (t : ℕ) (u : Update) → update_at [] t ≡ Some u → u.client ≡ None → IsMade u.doc []
+    none t u is raw = let l = update_within [] t u is in absurd (omega (arith, l))
+
+    more : Keeps (λ j. (t : ℕ) (u : Update) → update_at j t ≡ Some u → u.client ≡ None → IsMade u.doc j)
+    more h e legal may before t u is raw = made_stays u.doc h e (⊎_elim {C = IsMade u.doc h}
+        (λ old. before t u old raw)
+        (λ new.
+        let row : IsSending h u u.client = subst (λ a. IsAllowed h e.seat a) (sent_is e.act u new.1) may in
+        let without : IsRawUpdate h u = subst (IsSending h u) raw row in
+        without.made)
+        (update_new h e t u is))
+
+pub update_made : (j : List Entry) → IsLegal j → (t : ℕ) (u : Update) → update_at j t ≡ Some u → IsMade u.doc j
+update_made j legal t u is = by u.client refl
+  where
+    by : (o : Option ℕ) → u.client ≡ o → IsMade u.doc j
+    by None raw = raw_made j legal t u is raw
+    by (Some c) own = ((world j legal).counted c t u is own).1
 
 -- nothing was sent to a document that wasn't made
 pub unmade_sent : (d : ℕ) (j : List Entry) → IsLegal j → length (makings j) ≤ d → sent d j ≡ []
-unmade_sent d = by_last (λ j. length (makings j) ≤ d → sent d j ≡ []) (λ _. sent-none d) more
+unmade_sent d j legal high = by (sent d j) (sent_facts d j)
   where
-    other : (h : List Entry) (a : Act) → IsAllowed h a → length (makings h) ≤ d → sends d a ≡ false
-    other h (Sent u) may high = let made = may.made in ne_eqb u.doc d (λ is. omega (arith, made, is, high))
-    other h _ may high = refl
-
-    more : Keeps (λ j. length (makings j) ≤ d → sent d j ≡ [])
-    more h e legal may was high =
-        let low = more_makings h e in
-        let before : length (makings h) ≤ d = omega (arith, low, high) in
-        sent-push d h e ∙ ap (λ b. sent d h ++ one_if b (length h)) (other h e.act may before) ∙ append-nil (sent d h) ∙ was before
+    by : (ts : List ℕ) → All (SentAt d j) ts → ts ≡ []
+    by [] all = refl
+    by (t ∷ ts) all =
+        let s : SentAt d j t = all 0 t (omega arith) in
+        let made = update_made j legal t s.0 s.1 in
+        let doc = s.2 in absurd (omega (arith, made, doc, high))
 
 -- so nothing waits for it
 pub unmade_waits : (d : ℕ) (j : List Entry) → IsLegal j → length (makings j) ≤ d → waiting d j ≡ []
@@ -37,21 +58,7 @@ unmade_waits d j legal high = ap (λ l. filter (λ ticket. not (is_in ticket (co
 
 -- and nothing was applied to it
 pub unmade_applied : (d : ℕ) (j : List Entry) → IsLegal j → length (makings j) ≤ d → applied_list d j ≡ []
-unmade_applied d = by_last (λ j. length (makings j) ≤ d → applied_list d j ≡ []) (λ _. applied_list-none d) more
-  where
-    other : (h : List Entry) (a : Act) → IsLegal h → IsAllowed h a → length (makings h) ≤ d → items_by d h a ≡ []
-    other h (Committed doc token ticket outcome) legal may high =
-        let apart : doc ≢ d = λ is. let none = unmade_waits d h legal high in
-        let some = subst (λ (x : ℕ). waiting x h ≡ ticket ∷ may.1.0) is may.1.1 in
-        let clash : [] ≡ ticket ∷ may.1.0 = sym none ∙ some in absurd (cc) in
-        ap (λ b. if b then item_of ticket (update_at h ticket) outcome else []) (ne_eqb doc d apart)
-    other h _ legal may high = refl
-
-    more : Keeps (λ j. length (makings j) ≤ d → applied_list d j ≡ [])
-    more h e legal may was high =
-        let low = more_makings h e in
-        let before : length (makings h) ≤ d = omega (arith, low, high) in
-        applied_list-push d h e ∙ ap (λ l. applied_list d h ++ l) (other h e.act legal may before) ∙ append-nil (applied_list d h) ∙ was before
+unmade_applied d j legal high = (world j legal).unmade d high
 
 -- an entry applies at most one operation
 pub applied_short : (d : ℕ) (j : List Entry) → length (applied_list d j) ≤ length j
@@ -63,6 +70,7 @@ applied_short d = by_end (λ j. length (applied_list d j) ≤ length j) none mor
     one_item : (ticket : ℕ) (o : Option Update) (outcome : Outcome) → length (item_of ticket o outcome) ≤ 1
     one_item ticket (Some u) (Applied v op) = omega arith
     one_item ticket (Some u) (Refused cause) = omega arith
+    one_item ticket (Some u) (Dup v) = omega arith
     one_item ticket None outcome = omega arith
 
     choice : (b : Bool) (l : List Item) → length l ≤ 1 → length (if b then l else []) ≤ 1
@@ -87,12 +95,12 @@ bases_low = by_last (λ j. All (λ (m : Making). m.base ≤ highest_base) (makin
     none : All (λ (m : Making). m.base ≤ highest_base) (makings [])
     none = subst (λ (l : List Making). All (λ (m : Making). m.base ≤ highest_base) l) (sym makings-none) (all_none (λ (m : Making). m.base ≤ highest_base))
 
-    one : (h : List Entry) (a : Act) → IsAllowed h a → All (λ (m : Making). m.base ≤ highest_base) (making_of a)
-    one h (Made doc name project first base) may = all_one (λ (m : Making). m.base ≤ highest_base) _ may.low
-    one h _ may = all_none (λ (m : Making). m.base ≤ highest_base)
+    one : (h : List Entry) (seat : ℕ) (a : Act) → IsAllowed h seat a → All (λ (m : Making). m.base ≤ highest_base) (making_of a)
+    one h seat (Made doc name project first base) may = all_one (λ (m : Making). m.base ≤ highest_base) _ may.low
+    one h seat _ may = all_none (λ (m : Making). m.base ≤ highest_base)
 
     more : Keeps (λ j. All (λ (m : Making). m.base ≤ highest_base) (makings j))
-    more h e legal may all = subst (λ (l : List Making). All (λ (m : Making). m.base ≤ highest_base) l) (sym (makings-push h e)) (All-append (λ (m : Making). m.base ≤ highest_base) (makings h) (making_of e.act) all (one h e.act may))
+    more h e legal may all = subst (λ (l : List Making). All (λ (m : Making). m.base ≤ highest_base) l) (sym (makings-push h e)) (All-append (λ (m : Making). m.base ≤ highest_base) (makings h) (making_of e.act) all (one h e.seat e.act may))
 
 base_of : (ms : List Making) (d : ℕ) → All (λ (m : Making). m.base ≤ highest_base) ms → base_in (slice_get ms d) ≤ highest_base
 base_of [] d all = omega arith

@@ -117,9 +117,9 @@ committed_below = by_last (λ j. All (λ t. t < length j) (committed j)) none mo
     none : All (λ t. t < 0) (committed [])
     none = subst (λ (l : List ℕ). All (λ t. t < 0) l) (sym committed-none) (all_none (λ t. t < 0))
 
-    one : (h : List Entry) (a : Act) → IsAllowed h a → All (λ t. t < length h + 1) (ticket_of a)
-    one h (Committed doc token ticket outcome) may = all_one (λ t. t < length h + 1) ticket (let l = waits_within doc ticket h may.1.0 may.1.1 in omega (arith, l))
-    one h _ may = all_none (λ t. t < length h + 1)
+    one : (h : List Entry) (seat : ℕ) (a : Act) → IsAllowed h seat a → All (λ t. t < length h + 1) (ticket_of a)
+    one h seat (Committed doc token ticket outcome) may = all_one (λ t. t < length h + 1) ticket (let l = waits_within doc ticket h may.rest may.first in omega (arith, l))
+    one h seat _ may = all_none (λ t. t < length h + 1)
 
     more : Keeps (λ j. All (λ t. t < length j) (committed j))
     more h e legal may all =
@@ -127,11 +127,11 @@ committed_below = by_last (λ j. All (λ t. t < length j) (committed j)) none mo
         subst (λ (l : List ℕ). All (λ t. t < length (h ++ e ∷ [])) l) (sym (committed-push h e))
         (All-append (λ t. t < length (h ++ e ∷ [])) (committed h) (ticket_of e.act)
         (all_map (λ t. t < length h) (λ t. t < length (h ++ e ∷ [])) (committed h) (λ t l. omega (arith, l, long)) all)
-        (all_map (λ t. t < length h + 1) (λ t. t < length (h ++ e ∷ [])) (ticket_of e.act) (λ t l. omega (arith, l, long)) (one h e.act may)))
+        (all_map (λ t. t < length h + 1) (λ t. t < length (h ++ e ∷ [])) (ticket_of e.act) (λ t l. omega (arith, l, long)) (one h e.seat e.act may)))
 
 -- an entry that commits nothing
-pub waiting-more : (d : ℕ) (j : List Entry) (e : Entry) → IsLegal j → ticket_of e.act ≡ [] → waiting d (j ++ e ∷ []) ≡ waiting d j ++ one_if (sends d e.act) (length j)
-waiting-more d j e legal none =
+pub waiting-more : (d : ℕ) (j : List Entry) (e : Entry) → All (λ t. t < length j) (committed j) → ticket_of e.act ≡ [] → waiting d (j ++ e ∷ []) ≡ waiting d j ++ one_if (sends d e.act) (length j)
+waiting-more d j e below none =
     let same : committed (j ++ e ∷ []) ≡ committed j = committed-push j e ∙ ap (λ l. committed j ++ l) none ∙ append-nil (committed j) in
     ap (λ l. filter (open_in (committed (j ++ e ∷ []))) l) (sent-push d j e)
     ∙ ap (λ c. filter (open_in c) (sent d j ++ one_if (sends d e.act) (length j))) same
@@ -145,7 +145,7 @@ waiting-more d j e legal none =
         ap (λ b. not (b || list_any (λ c. eqb c n) ts)) h ∙ new ts n (λ i d lt. all (suc i) d (omega arith))
 
     by : (b : Bool) → filter (open_in (committed j)) (one_if b (length j)) ≡ one_if b (length j)
-    by true = ap (λ b. cond b (length j ∷ []) []) (new (committed j) (length j) (committed_below j legal))
+    by true = ap (λ b. cond b (length j ∷ []) []) (new (committed j) (length j) below)
     by false = refl
 
 -- the tests before and after a ticket was committed

@@ -1,4 +1,16 @@
 pub mod Folds
 pub mod Documents
+pub mod Tracking
 pub mod Deciding
+pub mod Locks
+pub mod Mail
+pub mod Client
+pub mod Keeping
+pub mod History
+pub mod Whys
 pub mod Legal
+pub mod Fence
+pub mod ClientLaw
+pub mod Once
+pub mod Mismatch
+pub mod CellsLaw

@@ -1,0 +1,36 @@
+-- Operations applied in turn.
+use Rattle.std.proofs.Common.{◌≡◌, ◌++◌, None, ℕ, ◌+◌, ◌<◌, List, [], ◌∷◌, length, map, take, drop, get_or, refl, sym, ap, ◌∙◌, min}
+use Rattle.std.specs.List.{take-map}
+use Rattle.std.specs.Option.{option_and_then}
+use Rattle.std.proofs.lemmas.List.{drop_more, take_min, take-append-drop}
+use Rattle.ot_op.specs.declared.comp.Comp.{Comp}
+use Rattle.ot_op.specs.Apply.{applied_all, IsFailing}
+use Rattle.ot_op.proofs.Applying.{applied_all-append}
+use Rattle.journal_rules.specs.Documents as rules
+use Rattle.plain_journal.specs.declared.documents.Item.{Item}
+use Rattle.plain_journal.specs.Answers.{item_as, operations}
+
+-- the operations of what was found are those of the applied list
+pub same_operations : (xs : List Item) → operations xs ≡ map (λ (x : rules.Item). x.op) (map item_as xs)
+same_operations [] = refl
+same_operations (x ∷ xs) = ap (λ l. x.op.now ∷ l) (same_operations xs)
+
+pub take_operations : (n : ℕ) (xs : List Item) → operations (take n xs) ≡ take n (operations xs)
+take_operations n xs = sym (take-map (λ (x : Item). x.op.now) n xs)
+
+-- the next one is applied first
+pub replays_next : (text : List ℕ) (xs : List Item) (i : ℕ) (x : Item) → i < length xs → x ≡ get_or xs i x
+    → rules.replayed text (operations (drop i xs)) ≡ option_and_then (λ next. rules.replayed next (operations (drop (i + 1) xs))) (applied_all text x.op.now)
+replays_next text xs i x lt is = ap (λ l. rules.replayed text (operations l)) (drop_more xs i x lt ∙ ap (λ (y : Item). y ∷ drop (i + 1) xs) (sym is))
+
+pub take_least : {A : Type 0} (n k : ℕ) (xs : List A) → k ≡ min n (length xs) → take k xs ≡ take n xs
+take_least n k xs is = ap (λ m. take m xs) is ∙ take_min n xs
+
+-- where the first component of the rest doesn't apply, the whole doesn't
+pub failing_none : (text left : List ℕ) (op : List Comp) (k : ℕ) → IsFailing text op left k → applied_all text op ≡ None
+failing_none text left op k fails =
+    let cut : op ≡ take k op ++ (take 1 (drop k op) ++ drop 1 (drop k op)) = sym (take-append-drop k op) ∙ ap (λ l. take k op ++ l) (sym (take-append-drop 1 (drop k op))) in
+    let rest : applied_all left (take 1 (drop k op) ++ drop 1 (drop k op)) ≡ None =
+    applied_all-append left (take 1 (drop k op)) (drop 1 (drop k op)) ∙ ap (λ o. option_and_then (λ next. applied_all next (drop 1 (drop k op))) o) fails.2 in
+    ap (applied_all text) cut ∙ applied_all-append text (take k op) (take 1 (drop k op) ++ drop 1 (drop k op))
+    ∙ ap (λ o. option_and_then (λ next. applied_all next (take 1 (drop k op) ++ drop 1 (drop k op))) o) fails.1 ∙ rest

@@ -1,0 +1,20 @@
+use Rattle.std.proofs.Common.{ap, sym, ◌∙◌, take}
+use Rattle.std.proofs.lemmas.List.{take_all}
+use Rattle.journal_rules.specs.Keeping.{loading, loading_by}
+use Rattle.journal_rules.proofs.Pushing.{loading-none, loading-push}
+use Rattle.plain_journal.proofs.Prefixes.{take_next}
+use Rattle.plain_journal.proofs.keeping.last_loading.Goals as goal
+
+pub loop-entry-init : goal.loop-entry-init
+loop-entry-init c = sym (loading-none c.args.doc)
+
+pub loop-entry-preserved : goal.loop-entry-preserved
+loop-entry-preserved c =
+    let j = c.args.journal.now in
+    let e = c.entry-item.result in
+    let now = take c.loop-entry.entry-index j in
+    c.loading_by-last.ensures ∙ ap (loading_by c.args.doc e.act) c.loop-entry.invariant
+    ∙ sym (loading-push c.args.doc now e) ∙ ap (loading c.args.doc) (sym (take_next j c.loop-entry.entry-index e c.loop-entry-test.true c.entry-item.is))
+
+pub returns : goal.returns
+returns c = c.loop-entry.invariant ∙ ap (loading c.args.doc) (take_all c.loop-entry.entry-index c.args.journal.now c.loop-entry-test.false)

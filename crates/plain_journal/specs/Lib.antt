@@ -1,0 +1,5 @@
+pub mod Answers
+pub mod Parts
+pub mod Sizes
+pub mod Crossing
+pub mod Whys
