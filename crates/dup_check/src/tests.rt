@@ -1,0 +1,4 @@
+//! What the calls answer with ample memory, on small texts worked by hand.
+
+mod deciding;
+mod window;
