@@ -1,49 +1,52 @@
 -- The documents after one entry more.
-use Rattle.std.proofs.Common.{◌≡◌, ◌≢◌, ◌⊎◌, ℕ, ◌+◌, ◌-◌, ◌^◌, ◌≤◌, ◌<◌, List, [], ◌∷◌, ◌++◌, length, true, false, not, cond, slice_set, refl, sym, ap, ap₂, ◌∙◌, subst, arith, eqb, eq-eqb, append-nil, length-append, inl, inr, zero, suc}
+use Rattle.std.proofs.Common.{◌≡◌, ◌≢◌, ◌⊎◌, ℕ, ◌+◌, ◌-◌, ◌^◌, ◌≤◌, ◌<◌, List, [], ◌∷◌, ◌++◌, length, true, false, not, cond, slice_set, refl, sym, ap, ap₂, ◌∙◌, subst, arith, eqb, eq-eqb, append-nil, length-append, inl, inr, zero, suc, take, All}
 use Rattle.std.specs.Prelude.{slice_get, position, Option, Some, None, map, nat_lt, if◌then◌else◌}
 use Rattle.std.specs.List.{position_or_len}
 use Rattle.std.specs.Str.{bytes_eq}
 use Rattle.std.proofs.lemmas.Option.{slice_get_within}
 use Rattle.std.proofs.lemmas.List.{length-set}
 use Rattle.std.proofs.lemmas.Bool.Decides.{eqb_tells}
+use Rattle.ranges_tracker.specs.Cells.{Row, plain_row}
+use Rattle.dup_check.specs.Window.{Recent}
 use Rattle.journal_entries.specs.declared.update.Update.{Update}
 use Rattle.journal_entries.specs.declared.update.Outcome.{Outcome}
-use Rattle.journal_entries.specs.declared.update.Outcome.TheVariants.{Applied, Refused}
+use Rattle.journal_entries.specs.declared.update.Outcome.TheVariants.{Applied, Dup, Refused}
 use Rattle.journal_entries.specs.declared.act.Act.{Act}
 use Rattle.journal_entries.specs.declared.act.Act.TheVariants.{Made, Sent, Malformed, Committed, Declined}
 use Rattle.journal_entries.specs.declared.act.Entry.{Entry}
-use Rattle.journal_rules.specs.Documents.{Making, making_of, makings, name_in, is_named, number_in, number_of, first_in, base_in, Item, item_of, items_by, applied_list, replayed, sends, ticket_of, waiting, update_at, text}
-use Rattle.journal_rules.specs.Deciding.{decided_of}
-use Rattle.journal_rules.specs.Legal.{IsAllowed, IsLegal}
+use Rattle.journal_rules.specs.Documents.{Making, making_of, makings, name_in, is_named, number_in, number_of, first_in, base_in, Item, item_of, items_by, applied_list, replayed, sends, ticket_of, waiting, update_at, text, version}
+use Rattle.journal_rules.specs.Tracking.{tracked, cells}
+use Rattle.journal_rules.specs.Deciding.{decided, longest}
 use Rattle.journal_rules.proofs.Pushing.{makings-push, makings-none, applied_list-push}
-use Rattle.journal_rules.proofs.Legality.{seam, last_or, legal_push}
 use Rattle.journal_rules.proofs.Waits.{one_if, waits_sent, waiting-more, waiting-committed, waiting-committed_other}
-use Rattle.journal_rules.proofs.Unmade.{unmade_waits, unmade_applied, version_low}
-use Rattle.journal_rules.proofs.Replaying.{replays_on}
 use Rattle.session_runner.specs.declared.document.Document.{Document}
 use Rattle.session_runner.specs.declared.document.Settled.{Settled}
-use Rattle.session_runner.specs.Deciding.{Becomes}
-use Rattle.session_runner.specs.Desk.{IsDocument, AreDocuments, IsQuiet, Queues, Changes, IsNew, IsSame, CanSettle, Settles}
+use Rattle.session_runner.specs.Legal.{IsAllowed, IsLegal}
+use Rattle.session_runner.specs.Deciding.{Becomes, IsSame, IsTracked, WasApplied}
+use Rattle.session_runner.specs.Desk.{IsWindowOf, IsDocument, AreDocuments, IsQuiet, Queues, Changes, IsNew, CanSettle, Settles}
+use Rattle.session_runner.proofs.Legality.{seam, last_or, legal_push}
+use Rattle.session_runner.proofs.Unmade.{committed_below, unmade_waits, unmade_applied, version_low, sent_raw}
 use Rattle.session_runner.proofs.Lists.{set_elsewhere, set_here}
+use Rattle.session_runner.proofs.Looking.{decision_is}
+use Rattle.session_runner.proofs.Standing.{same_self, moved, made_new, applied_document}
 
 -- an entry that makes no document and applies nothing to this one
+no_making_more : (d : ℕ) (j : List Entry) (e : Entry) → making_of e.act ≡ [] → slice_get (makings (j ++ e ∷ [])) d ≡ slice_get (makings j) d
+no_making_more d j e none = ap (λ l. slice_get l d) (makings-push j e ∙ ap (λ l. makings j ++ l) none ∙ append-nil (makings j))
+
+no_item_more : (d : ℕ) (j : List Entry) (e : Entry) → items_by d j e.act ≡ [] → applied_list d (j ++ e ∷ []) ≡ applied_list d j
+no_item_more d j e none = applied_list-push d j e ∙ ap (λ l. applied_list d j ++ l) none ∙ append-nil (applied_list d j)
+
 same_document : (d : ℕ) (document : Document) (j : List Entry) (e : Entry) → making_of e.act ≡ [] → items_by d j e.act ≡ [] → waiting d (j ++ e ∷ []) ≡ waiting d j → IsDocument d document j → IsDocument d document (j ++ e ∷ [])
 same_document d document j e no_making no_item waits was =
-    let ms : makings (j ++ e ∷ []) ≡ makings j = makings-push j e ∙ ap (λ l. makings j ++ l) no_making ∙ append-nil (makings j) in
-    let items : applied_list d (j ++ e ∷ []) ≡ applied_list d j = applied_list-push d j e ∙ ap (λ l. applied_list d j ++ l) no_item ∙ append-nil (applied_list d j) in
-    record {
-      name_is = was.name_is ∙ ap (λ l. name_in (slice_get l d)) (sym ms);
-      text_is = ap₂ (λ (l : List Making) (k : List Item). replayed (first_in (slice_get l d)) (map (λ x. x.op) k)) ms items ∙ was.text_is;
-      version_is = was.version_is ∙ sym (ap₂ (λ (l : List Making) (k : List Item). base_in (slice_get l d) + length k) ms items);
-      waiting_is = was.waiting_is ∙ sym waits;
-    }
+    moved d document document j (j ++ e ∷ []) (no_making_more d j e no_making) (no_item_more d j e no_item) (same_self document) (was.waiting_is ∙ sym waits) was
 
 same_count : (j : List Entry) (e : Entry) → making_of e.act ≡ [] → length (makings (j ++ e ∷ [])) ≡ length (makings j)
 same_count j e no_making = ap length (makings-push j e ∙ ap (λ l. makings j ++ l) no_making ∙ append-nil (makings j))
 
 -- what waits after an entry that commits nothing and sends nothing to this document
 waits_on : (d : ℕ) (j : List Entry) (e : Entry) → IsLegal j → ticket_of e.act ≡ [] → sends d e.act ≡ false → waiting d (j ++ e ∷ []) ≡ waiting d j
-waits_on d j e legal none unsent = waiting-more d j e legal none ∙ ap (λ b. waiting d j ++ one_if b (length j)) unsent ∙ append-nil (waiting d j)
+waits_on d j e legal none unsent = waiting-more d j e (committed_below j legal) none ∙ ap (λ b. waiting d j ++ one_if b (length j)) unsent ∙ append-nil (waiting d j)
 
 pub record QuietFacts (a : Act) : Type 0 where
   pub no_making : making_of a ≡ []
@@ -81,15 +84,9 @@ kept_sent old new j e u is may queued were =
     by d document at no_making no_ticket (inl t) =
         let here = queued.here document (subst (λ (n : ℕ). slice_get new n ≡ Some document) (sym t.1) at) in
         let was = were.each u.doc here.0 here.1 in
-        let waits = waiting-more u.doc j e were.legal no_ticket ∙ ap (λ b. waiting u.doc j ++ one_if b (length j)) (ap (sends u.doc) is ∙ eq-eqb u.doc u.doc refl) in
-        let ms : makings (j ++ e ∷ []) ≡ makings j = makings-push j e ∙ ap (λ l. makings j ++ l) no_making ∙ append-nil (makings j) in
-        let items : applied_list u.doc (j ++ e ∷ []) ≡ applied_list u.doc j = applied_list-push u.doc j e ∙ ap (λ l. applied_list u.doc j ++ l) (ap (items_by u.doc j) is) ∙ append-nil (applied_list u.doc j) in
-        subst (λ (n : ℕ). IsDocument n document (j ++ e ∷ [])) t.1 (record {
-          name_is = here.2 ∙ was.name_is ∙ ap (λ l. name_in (slice_get l u.doc)) (sym ms);
-          text_is = ap₂ (λ (l : List Making) (k : List Item). replayed (first_in (slice_get l u.doc)) (map (λ x. x.op) k)) ms items ∙ was.text_is ∙ ap (λ t. Some t) (sym here.3);
-          version_is = here.4 ∙ was.version_is ∙ sym (ap₂ (λ (l : List Making) (k : List Item). base_in (slice_get l u.doc) + length k) ms items);
-          waiting_is = here.5 ∙ ap (λ l. l ++ length j ∷ []) was.waiting_is ∙ sym waits;
-        })
+        let waits = waiting-more u.doc j e (committed_below j were.legal) no_ticket ∙ ap (λ b. waiting u.doc j ++ one_if b (length j)) (ap (sends u.doc) is ∙ eq-eqb u.doc u.doc refl) in
+        subst (λ (n : ℕ). IsDocument n document (j ++ e ∷ [])) t.1
+        (moved u.doc here.0 document j (j ++ e ∷ []) (no_making_more u.doc j e no_making) (no_item_more u.doc j e (ap (items_by u.doc j) is)) here.2 (here.3 ∙ ap (λ l. l ++ length j ∷ []) was.waiting_is ∙ sym waits) was)
     by d document at no_making no_ticket (inr t) =
         same_document d document j e no_making (ap (items_by d j) is) (waits_on d j e were.legal no_ticket (ap (sends d) is ∙ t.0))
         (were.each d document (queued.others d document (λ h. t.1 (sym h)) at))
@@ -148,35 +145,24 @@ kept_made documents new j e doc name project first base is may few is_new were =
         let lt = slice_get_within documents d document at in
         let c = were.count in
         let same : slice_get (makings (j ++ e ∷ [])) d ≡ slice_get (makings j) d = ap (λ l. slice_get l d) ms ∙ making_within (makings j) m d (omega (arith, lt, c)) in
-        record {
-          name_is = was.name_is ∙ ap name_in (sym same);
-          text_is = ap₂ (λ (o : Option Making) (k : List Item). replayed (first_in o) (map (λ x. x.op) k)) same (items d) ∙ was.text_is;
-          version_is = was.version_is ∙ sym (ap₂ (λ (o : Option Making) (k : List Item). base_in o + length k) same (items d));
-          waiting_is = was.waiting_is ∙ sym (waits d);
-        }
+        moved d document document j (j ++ e ∷ []) same (items d) (same_self document) (was.waiting_is ∙ sym (waits d)) was
     by d document (inr t) =
         let at : d ≡ length (makings j) = t.0 ∙ were.count in
         let here : slice_get (makings (j ++ e ∷ [])) d ≡ Some m = ap₂ (λ (l : List Making) (n : ℕ). slice_get l n) ms at ∙ seam (makings j) m [] in
         let high : length (makings j) ≤ d = omega (arith, at) in
         let none : applied_list d (j ++ e ∷ []) ≡ [] = items d ∙ unmade_applied d j were.legal high in
-        record {
-          name_is = ap (λ (x : Document). x.name) t.1 ∙ is_new.name_is ∙ ap name_in (sym here);
-          text_is = ap₂ (λ (o : Option Making) (k : List Item). replayed (first_in o) (map (λ x. x.op) k)) here none ∙ ap (λ t. Some t) (sym (ap (λ (x : Document). x.text) t.1 ∙ is_new.text_is));
-          version_is = ap (λ (x : Document). x.version) t.1 ∙ is_new.version_is ∙ (let z : base + 0 ≡ base = omega arith in sym z) ∙ sym (ap₂ (λ (o : Option Making) (k : List Item). base_in o + length k) here none);
-          waiting_is = ap (λ (x : Document). x.waiting.items) t.1 ∙ is_new.waiting_is ∙ sym (waits d ∙ unmade_waits d j were.legal high);
-        }
-
--- what a settled update gives
-settled_items : (ticket v : ℕ) (u : Update) (outcome : Outcome) (text : List ℕ) (next : List ℕ) (now : ℕ) (first : List ℕ) (base : ℕ) (xs : List Item) → replayed first (map (λ x. x.op) xs) ≡ Some text → v ≡ base + length xs → Becomes text v next now outcome →
-    (replayed first (map (λ x. x.op) (xs ++ item_of ticket (Some u) outcome)) ≡ Some next) × (now ≡ base + length (xs ++ item_of ticket (Some u) outcome))
-settled_items ticket v u (Applied w op) text next now first base xs was at becomes =
-    (replays_on first text next xs (record { op = op; v = w; ticket = ticket; update = u }) was becomes.0, (let n = length-append xs (record { op = op; v = w; ticket = ticket; update = u } ∷ []) in let b = becomes.1 in omega (arith, n, b, at)))
-settled_items ticket v u (Refused cause) text next now first base xs was at becomes =
-    (ap (λ l. replayed first (map (λ x. x.op) l)) (append-nil xs) ∙ was ∙ ap (λ t. Some t) (sym becomes.0), becomes.1 ∙ at ∙ ap (λ (l : List Item). base + length l) (sym (append-nil xs)))
+        let idle : waiting d (j ++ e ∷ []) ≡ [] = waits d ∙ unmade_waits d j were.legal high in
+        subst (λ (x : Document). IsDocument d x (j ++ e ∷ [])) (sym t.1) (made_new d new (j ++ e ∷ []) m here none idle may.short is_new)
 
 pub settled_allowed : (doc : ℕ) (old new : Document) (j : List Entry) (s : Settled) → IsDocument doc old j → Settles j old new (Some s) → IsAllowed j (Committed doc 0 s.ticket s.outcome)
-settled_allowed doc old new j s was settles =
-    (refl, (new.waiting.items, sym was.waiting_is ∙ settles.1), (settles.0, settles.3, settles.4 ∙ ap₂ (λ (n : ℕ) (o : Option (List ℕ)). decided_of n o settles.0) was.version_is (sym was.text_is)))
+settled_allowed doc old new j s was settles = record {
+  unlocked = refl;
+  rest = new.waiting.items;
+  first = sym was.waiting_is ∙ settles.1;
+  update = settles.0;
+  update_is = settles.2;
+  decided_is = settles.3 ∙ decision_is doc old j settles.0 was.text_is was.window_is;
+}
 
 pub kept_committed : (documents documents' : List Document) (old new : Document) (j : List Entry) (e : Entry) (doc : ℕ) (s : Settled) → e.act ≡ Committed doc 0 s.ticket s.outcome → slice_get documents doc ≡ Some old → Changes doc new documents documents' → Settles j old new (Some s) → AreDocuments documents j → AreDocuments documents' (j ++ e ∷ [])
 kept_committed documents documents' old new j e doc s is at_old changes settles were = record {
@@ -192,23 +178,21 @@ kept_committed documents documents' old new j e doc s is at_old changes settles 
     first_waits : waiting doc j ≡ s.ticket ∷ new.waiting.items
     first_waits = sym was.waiting_is ∙ settles.1
 
-    ms : makings (j ++ e ∷ []) ≡ makings j
-    ms = makings-push j e ∙ ap (λ a. makings j ++ making_of a) is ∙ append-nil (makings j)
+    no_making : making_of e.act ≡ []
+    no_making = ap making_of is
+
+    here : IsDocument doc new (j ++ e ∷ [])
+    here = applied_document doc old new j (j ++ e ∷ []) s.ticket settles.0 s.outcome (no_making_more doc j e no_making)
+        (applied_list-push doc j e ∙ ap (λ a. applied_list doc j ++ items_by doc j a) is
+        ∙ ap (λ b. applied_list doc j ++ (if b then item_of s.ticket (update_at j s.ticket) s.outcome else [])) (eq-eqb doc doc refl)
+        ∙ ap (λ o. applied_list doc j ++ item_of s.ticket o s.outcome) settles.2)
+        (sym (waiting-committed doc j e s.ticket new.waiting.items (ap (sends doc) is) (ap ticket_of is) first_waits))
+        settles.4 was
 
     by : (d : ℕ) (document : Document) → slice_get documents' d ≡ Some document → ((eqb doc d ≡ true) × (doc ≡ d)) ⊎ ((eqb doc d ≡ false) × (doc ≢ d)) → IsDocument d document (j ++ e ∷ [])
     by d document at (inl t) =
         let new_is : document ≡ new = changes.here document (subst (λ (n : ℕ). slice_get documents' n ≡ Some document) (sym t.1) at) in
-        let items : applied_list doc (j ++ e ∷ []) ≡ applied_list doc j ++ item_of s.ticket (Some settles.0) s.outcome =
-        applied_list-push doc j e ∙ ap (λ a. applied_list doc j ++ items_by doc j a) is
-        ∙ ap (λ b. applied_list doc j ++ (if b then item_of s.ticket (update_at j s.ticket) s.outcome else [])) (eq-eqb doc doc refl)
-        ∙ ap (λ o. applied_list doc j ++ item_of s.ticket o s.outcome) settles.3 in
-        let gives = settled_items s.ticket old.version settles.0 s.outcome old.text new.text new.version (first_in (slice_get (makings j) doc)) (base_in (slice_get (makings j) doc)) (applied_list doc j) was.text_is was.version_is settles.5 in
-        subst (λ (n : ℕ). IsDocument n document (j ++ e ∷ [])) t.1 (subst (λ (x : Document). IsDocument doc x (j ++ e ∷ [])) (sym new_is) (record {
-          name_is = settles.2 ∙ was.name_is ∙ ap (λ l. name_in (slice_get l doc)) (sym ms);
-          text_is = ap₂ (λ (l : List Making) (k : List Item). replayed (first_in (slice_get l doc)) (map (λ x. x.op) k)) ms items ∙ gives.0;
-          version_is = gives.1 ∙ sym (ap₂ (λ (l : List Making) (k : List Item). base_in (slice_get l doc) + length k) ms items);
-          waiting_is = sym (waiting-committed doc j e s.ticket new.waiting.items (ap (sends doc) is) (ap ticket_of is) first_waits);
-        }))
+        subst (λ (n : ℕ). IsDocument n document (j ++ e ∷ [])) t.1 (subst (λ (x : Document). IsDocument doc x (j ++ e ∷ [])) (sym new_is) here)
     by d document at (inr t) =
         let apart : d ≢ doc = λ h. t.1 (sym h) in
         let waits = waiting-committed_other d doc j e s.ticket new.waiting.items apart (ap (sends d) is) (ap ticket_of is) first_waits in
@@ -217,8 +201,8 @@ kept_committed documents documents' old new j e doc s is at_old changes settles 
         waits (were.each d document (changes.others d document apart at))
 
 -- where nothing was changed, all is kept
-pub kept_same : (documents documents' : List Document) (old new : Document) (j : List Entry) (doc : ℕ) → slice_get documents doc ≡ Some old → Changes doc new documents documents' → IsSame old new → AreDocuments documents j → AreDocuments documents' j
-kept_same documents documents' old new j doc at_old changes same were = record {
+pub kept_same : (documents documents' : List Document) (old new : Document) (j : List Entry) (doc : ℕ) → slice_get documents doc ≡ Some old → Changes doc new documents documents' → IsSame old new → new.waiting.items ≡ old.waiting.items → AreDocuments documents j → AreDocuments documents' j
+kept_same documents documents' old new j doc at_old changes same waits were = record {
   legal = were.legal;
   few = let n = changes.count in let m = were.few in omega (arith, n, m);
   count = changes.count ∙ were.count;
@@ -229,17 +213,12 @@ kept_same documents documents' old new j doc at_old changes same were = record {
     by d document at (inl t) =
         let new_is : document ≡ new = changes.here document (subst (λ (n : ℕ). slice_get documents' n ≡ Some document) (sym t.1) at) in
         let was = were.each doc old at_old in
-        subst (λ (n : ℕ). IsDocument n document j) t.1 (subst (λ (x : Document). IsDocument doc x j) (sym new_is) (record {
-          name_is = same.name_is ∙ was.name_is;
-          text_is = was.text_is ∙ ap (λ t. Some t) (sym same.text_is);
-          version_is = same.version_is ∙ was.version_is;
-          waiting_is = same.waiting_is ∙ was.waiting_is;
-        }))
+        subst (λ (n : ℕ). IsDocument n document j) t.1 (subst (λ (x : Document). IsDocument doc x j) (sym new_is) (moved doc old new j j refl refl same (waits ∙ was.waiting_is) was))
     by d document at (inr t) = were.each d document (changes.others d document (λ h. t.1 (sym h)) at)
 
--- the first that waits was sent
-pub can_settle : (doc : ℕ) (document : Document) (j : List Entry) → IsDocument doc document j → CanSettle j document
-can_settle doc document j was ticket rest is = let s = waits_sent doc ticket j rest (sym was.waiting_is ∙ is) in (s.0, s.1)
+-- the first that waits was sent, and is a raw update
+pub can_settle : (doc : ℕ) (document : Document) (j : List Entry) → IsLegal j → IsDocument doc document j → CanSettle j document
+can_settle doc document j legal was ticket rest is = let s = waits_sent doc ticket j rest (sym was.waiting_is ∙ is) in (s.0, s.1, sent_raw j ticket s.0 legal s.1)
 
 -- one waits less
 pub fewer_wait : (doc : ℕ) (old new : Document) (j : List Entry) (e : Entry) (s : Settled) → e.act ≡ Committed doc 0 s.ticket s.outcome → IsDocument doc old j → Settles j old new (Some s) → length (waiting doc (j ++ e ∷ [])) < length (waiting doc j)
@@ -250,8 +229,8 @@ fewer_wait doc old new j e s is was settles =
     omega (arith, before, after)
 
 -- a version has room for one more
-pub version_fits : (doc : ℕ) (document : Document) (documents : List Document) (j : List Entry) → AreDocuments documents j → IsDocument doc document j → length j < 2 ^ 63 → document.version < 2 ^ 64 - 1
-version_fits doc document documents j were was short = let low = version_low doc j were.legal in let v = was.version_is in omega (arith, low, v, short)
+pub version_fits : (doc : ℕ) (document : Document) (documents : List Document) (j : List Entry) → AreDocuments documents j → IsDocument doc document j → length j < 2 ^ 63 → document.window.version < 2 ^ 64 - 1
+version_fits doc document documents j were was short = let low = version_low doc j were.legal in let v = was.window_is.version_is in omega (arith, low, v, short)
 
 pub set_changes : (documents : List Document) (doc : ℕ) (w : Document) → Changes doc w documents (slice_set documents doc w)
 set_changes documents doc w = record {

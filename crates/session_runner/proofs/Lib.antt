@@ -1,8 +1,14 @@
-pub mod TakingBack
 pub mod Lists
+pub mod Legality
+pub mod Unmade
+pub mod Reaching
+pub mod Tracks
+pub mod Looking
+pub mod Rooms
+pub mod Standing
+pub mod Settling
 pub mod Keeping
 pub mod Doing
-pub mod Plain
 pub mod Writing
 pub mod Words
 pub mod Fitting

@@ -1,6 +1,6 @@
 -- The lines of a report, cut where the writing stands.
-use Rattle.std.proofs.Common.{◌≡◌, ◌⊎◌, ℕ, zero, suc, ◌+◌, ◌<◌, ◌≤◌, List, [], ◌∷◌, ◌++◌, length, take, drop, get_or, sym, ap, ◌∙◌, subst, arith, append-nil, append_assoc, inl, inr}
-use Rattle.std.specs.Prelude.{Option}
+use Rattle.std.proofs.Common.{◌≡◌, ◌⊎◌, ℕ, zero, suc, ◌+◌, ◌<◌, ◌≤◌, List, [], ◌∷◌, ◌++◌, length, take, drop, get_or, sym, ap, ap₂, ◌∙◌, subst, arith, append-nil, append_assoc, inl, inr}
+use Rattle.std.specs.Prelude.{Option, None}
 use Rattle.std.proofs.lemmas.Bool.{cases_lt}
 use Rattle.std.proofs.lemmas.List.{take_more, take-append-drop, length-take-le}
 use Rattle.json_lines.specs.Object.{line_of}
@@ -9,7 +9,12 @@ use Rattle.journal_entries.specs.declared.act.Entry.{Entry}
 use Rattle.journal_rules.specs.Documents.{name, text}
 use Rattle.session_runner.specs.declared.document.Document.{Document}
 use Rattle.session_runner.specs.Desk.{IsDocument}
-use Rattle.session_runner.specs.Report.{entry_members, entry_lines, document_members, document_line, document_lines, text_or_none}
+use Rattle.report_text.specs.declared.document_end.DocEnd.{DocEnd}
+use Rattle.report_text.specs.Documents.{document_members}
+use Rattle.report_text.specs.Entries.{entry_members}
+use Rattle.ranges_tracker.specs.declared.change.Change.{Change}
+use Rattle.ranges_tracker.specs.declared.comment.Comment.{Comment}
+use Rattle.session_runner.specs.Report.{document_end, document_line, document_lines, end_of, entry_lines, text_or_none}
 
 -- what is a part of a front is a part of the whole
 pub longer : (start now : Option (List ℕ)) (held text front back whole : List ℕ) → front ++ back ≡ whole → DeliveredPrefix start now held (text ++ front) → DeliveredPrefix start now held (text ++ whole)
@@ -28,17 +33,17 @@ entry_lines-append : (n : ℕ) (xs ys : List Entry) → entry_lines n (xs ++ ys)
 entry_lines-append n [] ys = ap (λ k. entry_lines k ys) (let z : n ≡ n + 0 = omega arith in z)
 entry_lines-append n (x ∷ xs) ys =
     let same : n + 1 + length xs ≡ n + suc (length xs) = omega arith in
-    ap (λ l. line_of (entry_members n x) ++ l) (entry_lines-append (n + 1) xs ys ∙ ap (λ k. entry_lines (n + 1) xs ++ entry_lines k ys) same)
-    ∙ sym (append_assoc (line_of (entry_members n x)) (entry_lines (n + 1) xs) (entry_lines (n + suc (length xs)) ys))
+    ap (λ l. line_of (entry_members 0 n [] x) ++ l) (entry_lines-append (n + 1) xs ys ∙ ap (λ k. entry_lines (n + 1) xs ++ entry_lines k ys) same)
+    ∙ sym (append_assoc (line_of (entry_members 0 n [] x)) (entry_lines (n + 1) xs) (entry_lines (n + suc (length xs)) ys))
 
-pub entries_more : (j : List Entry) (k : ℕ) (e : Entry) → k < length j → e ≡ get_or j k e → entry_lines 0 (take (k + 1) j) ≡ entry_lines 0 (take k j) ++ line_of (entry_members k e)
+pub entries_more : (j : List Entry) (k : ℕ) (e : Entry) → k < length j → e ≡ get_or j k e → entry_lines 0 (take (k + 1) j) ≡ entry_lines 0 (take k j) ++ line_of (entry_members 0 k [] e)
 entries_more j k e lt is =
     let long : length (take k j) ≡ k = length-take-le k j (omega (arith, lt)) in
     let at : 0 + length (take k j) ≡ k = omega (arith, long) in
     ap (entry_lines 0) (take_more j k e lt ∙ ap (λ x. take k j ++ x ∷ []) (sym is))
     ∙ entry_lines-append 0 (take k j) (e ∷ [])
-    ∙ ap (λ n. entry_lines 0 (take k j) ++ (line_of (entry_members n e) ++ [])) at
-    ∙ ap (λ l. entry_lines 0 (take k j) ++ l) (append-nil (line_of (entry_members k e)))
+    ∙ ap (λ n. entry_lines 0 (take k j) ++ (line_of (entry_members 0 n [] e) ++ [])) at
+    ∙ ap (λ l. entry_lines 0 (take k j) ++ l) (append-nil (line_of (entry_members 0 k [] e)))
 
 pub entries_cut : (j : List Entry) (k : ℕ) → entry_lines 0 (take k j) ++ entry_lines (0 + length (take k j)) (drop k j) ≡ entry_lines 0 j
 entries_cut j k = sym (entry_lines-append 0 (take k j) (drop k j)) ∙ ap (entry_lines 0) (take-append-drop k j)
@@ -57,11 +62,12 @@ pub documents_more : (j : List Entry) (k : ℕ) → document_lines (k + 1) j ≡
 documents_more j k = ap (λ n. document_lines n j) (let z : k + 1 ≡ suc k = omega arith in z)
 
 -- a document's line is that of the journal
-pub document_line_is : (d : ℕ) (document : Document) (j : List Entry) → IsDocument d document j → line_of (document_members d document.name document.text document.version) ≡ document_line d j
+pub document_line_is : (d : ℕ) (document : Document) (j : List Entry) → IsDocument d document j → line_of (document_members (end_of d document)) ≡ document_line d j
 document_line_is d document j was =
-    ap (λ n. line_of (document_members d n document.text document.version)) was.name_is
-    ∙ ap (λ t. line_of (document_members d (name d j) t document.version)) (sym (ap text_or_none was.text_is))
-    ∙ ap (λ v. line_of (document_members d (name d j) (text_or_none (text d j)) v)) was.version_is
+    ap (λ (end : DocEnd). line_of (document_members end)) (
+    ap₂ (λ (n : List ℕ) (t : List ℕ). record { b = 0; doc = d; kept = None; name = n; ranges = document.ranges; text = t; v = document.window.version }) was.name_is (sym (ap text_or_none was.text_is))
+    ∙ ap₂ (λ (r : List Change × List Comment) (v : ℕ). record { b = 0; doc = d; kept = None; name = name d j; ranges = r; text = text_or_none (text d j); v = v }) (sym was.tracked.ranges_are) was.window_is.version_is
+    )
 
 -- one line more, put beside those before it
 pub regrouped : (start now : Option (List ℕ)) (held text front line more : List ℕ) → more ≡ front ++ line → Delivered start now held ((text ++ front) ++ line) → Delivered start now held (text ++ more)

@@ -1,16 +1,63 @@
--- What becomes of a document's text and version by the outcome of an update.
-use Rattle.std.specs.Prelude.{◌≡◌, ℕ, ◌+◌, List, Bool, true, false, Some, None}
+-- What becomes of a document by the outcome of an update.
+use Rattle.std.specs.Prelude.{◌≡◌, ℕ, ◌≤◌, List, length, Some}
 use Rattle.ot_op.specs.declared.comp.Comp.{Comp}
 use Rattle.ot_op.specs.Apply.{applied_all}
+use Rattle.ot_transform.specs.Size.{Within}
+use Rattle.ranges_tracker.specs.Cells.{Row, steps, text_of}
+use Rattle.ranges_tracker.specs.declared.stamp.Stamp.{Stamp}
+use Rattle.ranges_tracker.specs.Shown.{shown}
+use Rattle.ranges_tracker.specs.Steady.{OlderLives, OlderGone}
+use Rattle.ranges_tracker.specs.WellFormed.{IsWellFormed}
+use Rattle.ranges_tracker.specs.declared.change.Change.{Change}
+use Rattle.ranges_tracker.specs.declared.comment.Comment.{Comment}
+use Rattle.dup_check.specs.Window.{pushed}
+use Rattle.dup_check.specs.Snapshot.{IsSmall}
+use Rattle.journal_entries.specs.declared.update.Update.{Update}
 use Rattle.journal_entries.specs.declared.update.Outcome.{Outcome}
-use Rattle.journal_entries.specs.declared.update.Outcome.TheVariants.{Applied, Refused}
+use Rattle.journal_entries.specs.declared.update.Outcome.TheVariants.{Applied, Dup, Refused}
+use Rattle.journal_rules.specs.Deciding.{longest}
+use Rattle.session_runner.specs.declared.document.Document.{Document}
 
--- an operation was applied, or it doesn't apply and the text stays
-abbrev pub WasApplied : List ℕ → List Comp → List ℕ → Bool → Type 0
-WasApplied text op next true = applied_all text op ≡ Some next
-WasApplied text op next false = (applied_all text op ≡ None) × (next ≡ text)
+-- cells that show a document's ranges over its text, with the marks of lower versions than this
+pub record IsTracked (row : Row) (text : List ℕ) (ranges : List Change × List Comment) (v : ℕ) : Type 0 where
+  pub well_formed : IsWellFormed row
+  pub older_lives : OlderLives v 0 row.lives
+  pub older_gone : OlderGone v 0 row.gone
+  pub text_is : text_of row.lives ≡ text
+  pub ranges_are : shown row ≡ ranges
 
--- the text and the version after an outcome
-abbrev pub Becomes : List ℕ → ℕ → List ℕ → ℕ → Outcome → Type 0
-Becomes text version next now (Applied v op) = (applied_all text op ≡ Some next) × (now ≡ version + 1)
-Becomes text version next now (Refused cause) = (next ≡ text) × (now ≡ version)
+-- the stamp of an update that is applied to a version
+abbrev pub stamp_at : ℕ → Update → Stamp
+stamp_at v u = record { version = v; user = u.user; ms = u.ms; track = u.track }
+
+-- the greatest place of an operation that was applied: behind the longest text, and the most units that an operation puts in
+abbrev pub farthest : ℕ
+farthest = 2162688
+
+-- an operation that others can be moved past: it is small, and its places are near
+pub record IsPassable (op : List Comp) : Type 0 where
+  pub small : IsSmall op
+  pub near : Within farthest op
+
+-- nothing of a document was changed but what waits
+pub record IsSame (old new : Document) : Type 0 where
+  pub name_is : new.name ≡ old.name
+  pub text_is : new.text ≡ old.text
+  pub ranges_are : new.ranges ≡ old.ranges
+  pub window_is : new.window ≡ old.window
+
+-- an operation of an update was applied to a document
+pub record WasApplied (old : Document) (u : Update) (v : ℕ) (op : List Comp) (new : Document) : Type 0 where
+  pub name_is : new.name ≡ old.name
+  pub version_is : v ≡ old.window.version
+  pub text_is : applied_all old.text op ≡ Some new.text
+  pub ranges_are : (row : Row) → IsTracked row old.text old.ranges v → shown (steps row op (stamp_at v u) 0).row ≡ new.ranges
+  pub window_is : new.window ≡ pushed old.window (record { source = u.source; op = op })
+  pub small : IsSmall op
+  pub short : length new.text ≤ longest
+
+-- the document after an outcome
+abbrev pub Becomes : Document → Update → Document → Outcome → Type 0
+Becomes old u new (Applied v op) = WasApplied old u v op new
+Becomes old u new (Dup v) = IsSame old new
+Becomes old u new (Refused cause) = IsSame old new

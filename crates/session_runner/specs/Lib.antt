@@ -1,4 +1,7 @@
+pub mod Passing
+pub mod Legal
 pub mod Deciding
+pub mod Looking
 pub mod Desk
 pub mod Script
 pub mod Report

@@ -5,10 +5,11 @@ use Rattle.ot_op.specs.declared.comp.Comp.{Comp}
 use Rattle.ot_op.specs.declared.fault.FormFault.{FormFault}
 use Rattle.journal_entries.specs.declared.act.Act.{Act}
 use Rattle.journal_entries.specs.declared.act.Act.TheVariants.{Made, Sent, Malformed, Declined}
-use Rattle.journal_entries.specs.declared.act.Why.TheVariants.{NoDoc}
+use Rattle.journal_entries.specs.declared.why.Why.TheVariants.{NoDoc}
 use Rattle.journal_entries.specs.declared.act.Entry.{Entry}
 use Rattle.journal_rules.specs.Documents.{Making, makings, is_named, number_of, waiting}
-use Rattle.journal_rules.specs.Legal.{IsRaw, longest, highest_base}
+use Rattle.journal_rules.specs.Deciding.{longest}
+use Rattle.journal_rules.specs.Legal.{IsRaw, highest_base}
 use Rattle.session_lines.specs.declared.line.Line.{Line}
 use Rattle.session_lines.specs.declared.line.Line.TheVariants.{Doc, Raw}
 use Rattle.session_runner.specs.Desk.{IsSettling}

@@ -4,11 +4,13 @@ ghost use Rattle.std.specs.Prelude.{◌≡◌, ◌<◌, ◌^◌, ◌++◌, ◌�
 ghost use Rattle.std.specs.Str.{bytes_eq};
 ghost use Rattle.journal_entries.specs.declared.act.Entry.{Entry};
 ghost use Rattle.journal_rules.specs.Documents.{IsMade, makings, number_of, waiting};
-ghost use Rattle.journal_rules.specs.Legal.{IsAllowed, IsMaking};
+ghost use Rattle.journal_rules.specs.Legal.{IsMaking};
+ghost use Rattle.session_runner.specs.Legal.{IsAllowed};
 ghost use Rattle.session_runner.specs.Desk.{Adds, IsKept, IsQuiet, Queues};
 
 use crate::document::Document;
 use journal_entries::{Act, Entry, Update};
+use ot_text::doc_text;
 use ot_units::{Name, Units};
 use std::alloc::{AllocError, Global};
 
@@ -56,7 +58,7 @@ impl Desk {
         ensures { OnOk result (Adds self.old self.new (record { seat = 0; line = Some line; act = Act.Made (length (makings self.old.journal.items)) name project first base })) }
     {
         let doc = self.documents.len() as u32;
-        let document = Document::new(alloc, name.copy(alloc)?, first.copy(alloc)?, base);
+        let document = Document::new(alloc, name.copy(alloc)?, doc_text(alloc, &first)?, base)?;
         self.documents.push(document)?;
         self.journal.push(Entry {
             seat: 0,

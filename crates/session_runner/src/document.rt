@@ -1,25 +1,27 @@
-//! A document as it stands: its text, its version, and the updates that wait for it.
+//! A document as it stands: its text, its ranges, what was applied last, and the updates that wait.
 
-ghost use Rattle.std.specs.Prelude.{◌≡◌, ◌≤◌, ◌<◌, ◌^◌, ◌-◌, ◌++◌, ◌∷◌, [], ℕ, List, length, take, Some, IfOk};
-ghost use Rattle.ot_op.specs.Apply.{applied_all};
-ghost use Rattle.journal_rules.specs.Deciding.{decided_of};
-ghost use Rattle.journal_rules.specs.Documents.{update_at as update_at_lem};
+ghost use Rattle.std.specs.Prelude.{◌≡◌, ◌<◌, ◌^◌, ◌-◌, ◌++◌, ◌∷◌, [], IfOk};
 ghost use Rattle.std.specs.Option.{option_copied};
-ghost use Rattle.session_runner.specs.Deciding.{Becomes, WasApplied};
-ghost use Rattle.session_runner.specs.Desk.{CanSettle, IsNew, Settles};
+ghost use Rattle.journal_rules.specs.Documents.{update_at as update_at_lem};
+ghost use Rattle.session_runner.specs.Desk.{CanSettle, IsDecidable, IsNew, Settles};
+ghost use Rattle.session_runner.specs.Looking.{IsBare, IsLook, IsTakenUp};
 
-use journal_entries::{Act, Cause, Entry, Outcome, Update};
-use ot_op::{ApplyFault, Op, apply, invert};
+use dup_check::{Decision, Past, Snapshot, Window, decide};
+use journal_entries::{Act, Entry, Outcome, Update};
+use ot_text::DocText;
 use ot_units::{Name, Units};
+use ranges_tracker::Ranges;
 use std::alloc::{AllocError, Global};
 use std::collections::VecDeque;
+use std::mem;
 
 /// A document as it stands.
 #[derive(Drop)]
 pub(crate) struct Document {
     pub name: Name,
-    pub text: Units,
-    pub version: u64,
+    pub text: DocText,
+    pub ranges: Ranges,
+    pub window: Window,
     /// The tickets of the updates that wait, the first sent first.
     pub waiting: VecDeque<u64>,
 }
@@ -33,25 +35,33 @@ pub(crate) struct Settled {
 
 impl Document {
     /// A document that was just made.
-    pub(crate) fn new(alloc: Global, name: Name, text: Units, version: u64) -> Document
-        ensures { IsNew result name text version }
+    pub(crate) fn new(
+        alloc: Global,
+        name: Name,
+        text: DocText,
+        version: u64,
+    ) -> Result<Document, AllocError>
+        ensures { IfOk result (λ made. IsNew made name text version) }
     {
-        Document {
+        Ok(Document {
             name,
             text,
-            version,
+            ranges: Ranges::none(alloc),
+            window: Window::new(alloc, version)?,
             waiting: VecDeque::new(alloc),
-        }
+        })
     }
 
-    /// Takes the first update that waits, and decides on it.
+    /// Takes the first update that waits, and decides on it. `doc` is the document's number.
     pub(crate) fn settle(
         &mut self,
         alloc: Global,
+        doc: u32,
         journal: &[Entry],
     ) -> Result<Option<Settled>, AllocError>
         requires sent { CanSettle journal.now self.old }
-        requires low { self.old.version < 2 ^ 64 - 1 }
+        requires ready { IsDecidable self.old }
+        requires low { self.old.window.version < 2 ^ 64 - 1 }
         ensures { IfOk result (λ settled. Settles journal.now self.old self.new settled) }
     {
         let Some(ticket) = self.waiting.pop_front() else {
@@ -60,8 +70,70 @@ impl Document {
         let Some(update) = update_at(journal, ticket) else {
             unreachable!()
         };
-        let outcome = decide(alloc, &mut self.text, &mut self.version, update)?;
+        let look = self.lend(alloc, doc, ticket, journal.len() as u64, update)?;
+        let decision = decide(alloc, &look)?;
+        let outcome = self.take_up(alloc, look, decision)?;
         Ok(Some(Settled { ticket, outcome }))
+    }
+
+    // What a decision on an update looks at. The text and the ranges are lent to it, not copied.
+    fn lend(
+        &mut self,
+        alloc: Global,
+        doc: u32,
+        ticket: u64,
+        at: u64,
+        update: &Update,
+    ) -> Result<Snapshot, AllocError>
+        ensures look { IfOk result (λ look. IsLook self.old update.now look) }
+        ensures bare { IfOk result (λ _. IsBare self.old self.new) }
+    {
+        let past = self.window.since(alloc, update.v)?;
+        let update = update.copy(alloc)?;
+        let nothing = Units::from_slice(alloc, &[])?;
+        Ok(Snapshot {
+            seat: 0,
+            token: 0,
+            doc,
+            ticket,
+            version: self.window.version(),
+            base: self.window.base(),
+            text: mem::replace(&mut self.text, nothing),
+            ranges: mem::replace(&mut self.ranges, Ranges::none(alloc)),
+            past: past.unwrap_or(Vec::new(alloc)),
+            update,
+            at,
+        })
+    }
+
+    // Takes a decision up, and the text and the ranges that were lent to it.
+    fn take_up(
+        &mut self,
+        alloc: Global,
+        look: Snapshot,
+        decision: Decision,
+    ) -> Result<Outcome, AllocError>
+        requires { self.old.window.version < 2 ^ 64 - 1 }
+        ensures { IfOk result (λ outcome. IsTakenUp self.old look decision self.new outcome) }
+    {
+        self.text = look.text;
+        self.ranges = look.ranges;
+        match decision {
+            Decision::Apply { op, text, ranges } => {
+                self.text = text;
+                self.ranges = ranges;
+                self.window.push(Past {
+                    source: look.update.source,
+                    op: op.copy(alloc)?,
+                });
+                Ok(Outcome::Applied {
+                    v: look.version,
+                    op,
+                })
+            }
+            Decision::Dup(v) => Ok(Outcome::Dup { v }),
+            Decision::Refuse(cause) => Ok(Outcome::Refused(cause)),
+        }
     }
 }
 
@@ -72,60 +144,5 @@ fn update_at(journal: &[Entry], ticket: u64) -> Option<&Update>
     match &journal.get(ticket as usize)?.act {
         Act::Sent { update } => Some(update),
         _ => None,
-    }
-}
-
-/// Decides on an update at the document's version, and applies it where it fits.
-pub(crate) fn decide(
-    alloc: Global,
-    text: &mut Units,
-    version: &mut u64,
-    update: &Update,
-) -> Result<Outcome, AllocError>
-    requires { version.old < 2 ^ 64 - 1 }
-    ensures decided { IfOk result (λ outcome. outcome ≡ decided_of version.old (Some text.old) update.now) }
-    ensures becomes { IfOk result (λ outcome. Becomes text.old version.old text.new version.new outcome) }
-{
-    let have = *version;
-    if have < update.v {
-        return Ok(Outcome::Refused(Cause::Future { have }));
-    }
-    if update.v < have {
-        return Ok(Outcome::Refused(Cause::OlderNotBuilt { have }));
-    }
-    if !apply_whole(alloc, text, &update.op)? {
-        return Ok(Outcome::Refused(Cause::Mismatch));
-    }
-    let op = update.op.copy(alloc)?;
-    *version = have + 1;
-    Ok(Outcome::Applied { v: have, op })
-}
-
-// Applies an operation where it applies, and else leaves the text as it was.
-fn apply_whole(alloc: Global, text: &mut Units, op: &Op) -> Result<bool, AllocError>
-    ensures { IfOk result (λ applies. WasApplied text.old op.now text.new applies) }
-{
-    match apply(text, op) {
-        Ok(()) => Ok(true),
-        Err(ApplyFault::Memory) => Err(AllocError),
-        Err(ApplyFault::Mismatch(count)) => {
-            take_back(alloc, text, op, count as usize)?;
-            Ok(false)
-        }
-    }
-}
-
-// Takes back the first components of an operation, which were applied.
-fn take_back(alloc: Global, text: &mut Units, op: &Op, count: usize) -> Result<(), AllocError>
-    requires within { count ≤ length op.now }
-    requires applied { (before : List ℕ) × (applied_all before (take count op.now) ≡ Some text.old) }
-    ensures { IfOk result (λ _. (before : List ℕ) → applied_all before (take count op.now) ≡ Some text.old → text.new ≡ before) }
-{
-    let first = Op::from_slice(alloc, &op.comps()[..count])?;
-    let back = invert(alloc, &first)?;
-    match apply(text, &back) {
-        Ok(()) => Ok(()),
-        Err(ApplyFault::Memory) => Err(AllocError),
-        Err(ApplyFault::Mismatch(_)) => unreachable!(),
     }
 }

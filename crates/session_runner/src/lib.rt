@@ -4,7 +4,6 @@
 mod desk;
 mod document;
 mod ending;
-mod entry_line;
 mod lines;
 mod report;
 mod run;

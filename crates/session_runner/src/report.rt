@@ -6,16 +6,16 @@ ghost use Rattle.source_sink.specs.Buffered.{Delivered};
 ghost use Rattle.source_sink.specs.Causes.{HasCauseOf};
 ghost use Rattle.source_sink.specs.Outside.{Wrote};
 ghost use Rattle.session_runner.specs.Desk.{AreDocuments, IsKept};
-ghost use Rattle.session_runner.specs.Report.{document_lines, document_members, entry_lines, report_of};
+ghost use Rattle.report_text.specs.Documents.{document_members};
+ghost use Rattle.session_runner.specs.Report.{document_lines, end_of, entry_lines, report_of};
 ghost use Rattle.session_runner.specs.Writing.{Pushed};
 ghost use Rattle.journal_entries.specs.declared.act.Entry.{Entry};
 
 use crate::desk::Desk;
 use crate::document::Document;
-use crate::entry_line::entry_line;
 use journal_entries::Entry;
-use json_lines::Object;
-use serde_json::Value;
+use ot_text::doc_units;
+use report_text::{DocEnd, doc_line, entry_line};
 use source_sink::{Failed, Sink, WriteBuffer};
 use std::alloc::{AllocError, Global};
 
@@ -88,7 +88,7 @@ fn write_entries<W: Sink>(
     ensures cause { HasCauseOf (W.count out.old) (W.count out.new) result WriteFault.Failed }
 {
     for (n, entry) in journal.iter().enumerate() {
-        write_line(entry_line(alloc, n as u64, entry), buffer, out)?;
+        write_line(entry_line(alloc, 0, n as u64, entry, &[]), buffer, out)?;
     }
     Ok(())
 }
@@ -105,7 +105,7 @@ fn write_documents<W: Sink>(
     ensures cause { HasCauseOf (W.count out.old) (W.count out.new) result WriteFault.Failed }
 {
     for (doc, document) in desk.documents.iter().enumerate() {
-        write_line(document_line(alloc, doc as u64, document), buffer, out)?;
+        write_line(document_line(alloc, doc as u32, document), buffer, out)?;
     }
     Ok(())
 }
@@ -129,19 +129,19 @@ fn write_line<W: Sink>(
 }
 
 // The line of a document at the end, under its number.
-fn document_line(alloc: Global, doc: u64, document: &Document) -> Result<Vec<u8>, AllocError>
-    ensures { IfOk result (λ bytes. bytes.items ≡ line_of (document_members doc document.now.name document.now.text document.now.version)) }
+fn document_line(alloc: Global, doc: u32, document: &Document) -> Result<Vec<u8>, AllocError>
+    ensures { IfOk result (λ bytes. bytes.items ≡ line_of (document_members (end_of doc document.now))) }
 {
-    let text = document.text.to_text(alloc)?;
-    let mut object = Object::new(alloc);
-    object.set_number("b", 0)?;
-    object.set("changes", Value::Array(Vec::new(alloc)))?;
-    object.set("comments", Value::Array(Vec::new(alloc)))?;
-    object.set_number("doc", doc)?;
-    object.set_text("e", "doc")?;
-    object.set_null("kept")?;
-    object.set_text("name", document.name.as_str())?;
-    object.set_text("text", text.as_str())?;
-    object.set_number("v", document.version)?;
-    object.line()
+    doc_line(
+        alloc,
+        &DocEnd {
+            b: 0,
+            doc,
+            kept: None,
+            name: document.name.copy(alloc)?,
+            ranges: document.ranges.copy(alloc)?,
+            text: doc_units(alloc, &document.text)?,
+            v: document.window.version(),
+        },
+    )
 }

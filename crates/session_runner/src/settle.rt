@@ -42,7 +42,7 @@ impl Desk {
         ensures count { IfOk result (λ _. length self.new.documents.items ≡ length self.old.documents.items) }
         ensures settles { IfOk result (λ settled. SettlesNext doc self.old self.new settled) }
     {
-        let found = self.documents[doc as usize].settle(alloc, &self.journal)?;
+        let found = self.documents[doc as usize].settle(alloc, doc, &self.journal)?;
         let Some(settled) = found else {
             return Ok(false);
         };

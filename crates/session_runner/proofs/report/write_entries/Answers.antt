@@ -1,6 +1,7 @@
-use Rattle.std.proofs.Common.{rules, ◌≡◌, ◌+◌, ◌++◌, length, take, drop, Err, sym, subst, arith}
+use Rattle.std.proofs.Common.{rules, ◌≡◌, ◌+◌, ◌++◌, [], length, take, drop, Err, sym, subst, arith}
 use Rattle.json_lines.specs.Object.{line_of}
-use Rattle.session_runner.specs.Report.{entry_lines, entry_members}
+use Rattle.report_text.specs.Entries.{entry_members}
+use Rattle.session_runner.specs.Report.{entry_lines}
 use Rattle.session_runner.specs.Writing.{Pushed}
 use Rattle.session_runner.proofs.Writing.{longer, entries_more, entries_cut, regrouped, regrouped_prefix}
 use Rattle.session_runner.proofs.report.write_entries.Goals as goal
@@ -9,7 +10,7 @@ pub returns-in_err-write_line-clause-pushed : goal.returns-in_err-write_line-cla
 returns-in_err-write_line-clause-pushed g c = λ start text given.
     let j = c.args.journal.now in
     let so_far = entry_lines 0 (take c.loop-n.n j) in
-    let line = line_of (entry_members c.loop-n.n c.index-journal-n.result) in
+    let line = line_of (entry_members 0 c.loop-n.n [] c.index-journal-n.result) in
     let pushed = c.in_err-write_line.ensures.pushed start (text ++ so_far) line c.entry_line.ensures (c.loop-n.invariant.1 start text given) in
     let more = entries_more j c.loop-n.n c.index-journal-n.result c.loop-n-test.true c.index-journal-n.is in
     let prefix = longer start _ _ text (entry_lines 0 (take (c.loop-n.n + 1) j)) (entry_lines (0 + length (take (c.loop-n.n + 1) j)) (drop (c.loop-n.n + 1) j)) (entry_lines 0 j) (entries_cut j (c.loop-n.n + 1))
@@ -21,7 +22,7 @@ pub loop-n-preserved : goal.loop-n-preserved
 loop-n-preserved g c =
     let j = c.args.journal.now in
     let so_far = entry_lines 0 (take c.loop-n.n j) in
-    let line = line_of (entry_members c.loop-n.n c.index-journal-n.result) in
+    let line = line_of (entry_members 0 c.loop-n.n [] c.index-journal-n.result) in
     let more = entries_more j c.loop-n.n c.index-journal-n.result c.loop-n-test.true c.index-journal-n.is in
     let before = c.loop-n.invariant.0 in
     let later = c.in_ok-write_line.ensures.cause.later in (

@@ -5,13 +5,14 @@ use Rattle.journal_entries.specs.declared.act.Entry.{Entry}
 use Rattle.session_runner.specs.declared.document.Settled.{Settled}
 use Rattle.session_runner.specs.Desk.{CanSettle, Settles, settling}
 use Rattle.session_runner.proofs.Lists.{none_of}
+use Rattle.session_runner.proofs.Standing.{is_decidable}
 use Rattle.session_runner.proofs.Keeping.{can_settle, version_fits, kept_same, kept_committed, set_changes, fewer_wait}
 use Rattle.session_runner.proofs.desk.Desk.settle_next.Goals as goal
 
 pub settle-requires-clause-sent : goal.settle-requires-clause-sent
 settle-requires-clause-sent c =
     let at = slice_get_read c.args.self.now.documents.items (length c.args.self.now.documents.items) c.args.doc c.index_mut.result.now refl c.requires.made c.index_mut.ensures.value in
-    let can = can_settle c.args.doc c.index_mut.result.now c.args.self.now.journal.items (c.requires.kept.each c.args.doc c.index_mut.result.now at) in
+    let can = can_settle c.args.doc c.index_mut.result.now c.args.self.now.journal.items c.requires.kept.legal (c.requires.kept.each c.args.doc c.index_mut.result.now at) in
     subst (λ (j : List Entry). CanSettle j c.index_mut.result.now) (sym c.deref.ensures.value) can
 
 pub settle-requires-clause-low : goal.settle-requires-clause-low
@@ -21,6 +22,11 @@ settle-requires-clause-low c =
     let ok = c.args.self.now.journal.ok in
     version_fits c.args.doc c.index_mut.result.now c.args.self.now.documents.items c.args.self.now.journal.items c.requires.kept (c.requires.kept.each c.args.doc c.index_mut.result.now at) (omega (arith, small, ok))
 
+pub settle-requires-clause-ready : goal.settle-requires-clause-ready
+settle-requires-clause-ready c =
+    let at = slice_get_read c.args.self.now.documents.items (length c.args.self.now.documents.items) c.args.doc c.index_mut.result.now refl c.requires.made c.index_mut.ensures.value in
+    is_decidable c.args.doc c.index_mut.result.now c.args.self.now.journal.items (c.requires.kept.each c.args.doc c.index_mut.result.now at)
+
 pub returns-in_default-clause-settles : goal.returns-in_default-clause-settles
 returns-in_default-clause-settles c =
     let at = slice_get_read c.args.self.now.documents.items (length c.args.self.now.documents.items) c.args.doc c.index_mut.result.now refl c.requires.made c.index_mut.ensures.value in
@@ -28,7 +34,7 @@ returns-in_default-clause-settles c =
     let settles = subst (λ (o : Option Settled). Settles c.deref.result.now c.index_mut.result.now c.settle.new.self o) none c.in_ok-found.ensures in
     let was = c.requires.kept.each c.args.doc c.index_mut.result.now at in (
       kept_same c.args.self.now.documents.items (slice_set c.args.self.now.documents.items c.args.doc c.settle.new.self) c.index_mut.result.now c.settle.new.self c.args.self.now.journal.items c.args.doc at
-          (set_changes c.args.self.now.documents.items c.args.doc c.settle.new.self) settles.1 c.requires.kept,
+          (set_changes c.args.self.now.documents.items c.args.doc c.settle.new.self) settles.2 (settles.1 ∙ sym settles.0) c.requires.kept,
       refl,
       sym was.waiting_is ∙ settles.0,
     )
