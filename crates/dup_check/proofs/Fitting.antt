@@ -14,11 +14,11 @@ use Rattle.ot_op.proofs.Applying.{applied_all-append}
 use Rattle.ot_op.proofs.Pieces.{ins_cut, del_cut, com_cut}
 use Rattle.ot_transform.specs.Size.{edit_units, edit_units_in, comment_count, comments_in}
 use Rattle.ot_transform.proofs.Converging.{First, first_of_list}
-use Rattle.ranges_tracker.specs.Cells.{Live, Row}
-use Rattle.ranges_tracker.specs.Steady.{units_all, IsFit}
+use Rattle.ranges_tracker.specs.Steady.{units_all}
+use Rattle.ranges_tracker.specs.Trackable.{IsFit}
 use Rattle.journal_rules.specs.Deciding.{longest}
 use Rattle.dup_check.specs.declared.snapshot.Snapshot.{Snapshot}
-use Rattle.dup_check.specs.Snapshot.{stamp_of, IsRowOf, Agrees, IsSmall}
+use Rattle.dup_check.specs.Snapshot.{stamp_of, Agrees, IsSmall}
 
 -- where the first component of the rest doesn't apply, the whole doesn't
 pub failing_none : (text left : List ℕ) (op : List Comp) (k : ℕ) → IsFailing text op left k → applied_all text op ≡ None
@@ -83,16 +83,12 @@ components_few (c ∷ cs) solid =
 -- what a small operation needs of the ranges that agree with a text
 pub fit : (look : Snapshot) (op : List Comp) (text : List ℕ) → Agrees look → length look.text ≤ longest → IsSmall op → IsOp op → applied_all look.text op ≡ Some text → IsFit look.ranges op (stamp_of look)
 fit look op text agrees short small solid e =
-    let row : Row = agrees.0 in
-    let of : IsRowOf look row = agrees.1 in
-    let size : length row.lives ≡ length look.text = sym (length-map row.lives (λ (l : Live). l.unit)) ∙ ap length of.text in
     let units : units_all op ≤ edit_units_in op + comments_in op * 2162688 = units_bounded 2162688 look.text op text (omega (arith, small.units)) e in
     record {
-      row = row;
+      text = look.text;
       next = text;
-      steady = of.steady;
-      is = of.ranges;
-      applies = ap (λ (t : List ℕ). applied_all t op) of.text ∙ e;
+      of = agrees;
+      applies = e;
       room = omega (arith, small.units, small.comments);
       few = omega (arith, components_few op solid, small.units, small.comments);
     }

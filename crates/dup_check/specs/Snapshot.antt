@@ -8,9 +8,8 @@ use Rattle.ot_transform.specs.Size.{edit_units_in, comments_in}
 use Rattle.ranges_tracker.specs.declared.stamp.Stamp.{Stamp}
 use Rattle.ranges_tracker.specs.declared.change.Change.{Change}
 use Rattle.ranges_tracker.specs.declared.comment.Comment.{Comment}
-use Rattle.ranges_tracker.specs.Cells.{Row, text_of}
-use Rattle.ranges_tracker.specs.Shown.{shown}
-use Rattle.ranges_tracker.specs.Steady.{Steady, IsStepsOf}
+use Rattle.ranges_tracker.specs.Steady.{IsStepsOf}
+use Rattle.ranges_tracker.specs.Trackable.{AreRangesAt}
 use Rattle.journal_entries.specs.declared.update.Cause.TheVariants.{Mismatch}
 use Rattle.journal_entries.specs.declared.update.Outcome.{Outcome}
 use Rattle.journal_entries.specs.declared.update.Outcome.TheVariants as outcome
@@ -33,15 +32,9 @@ numbered v (x ∷ xs) = record { v = v; source = x.source; op = x.op } ∷ numbe
 abbrev pub stamp_of : Snapshot → Stamp
 stamp_of look = record { version = look.version; user = look.update.user; ms = look.update.ms; track = look.update.track }
 
--- a row of cells over the text that shows the ranges, each mark from below the version
-pub record IsRowOf (look : Snapshot) (row : Row) : Type 0 where
-  pub steady : Steady row (stamp_of look) 0
-  pub text : text_of row.lives ≡ look.text
-  pub ranges : shown row ≡ look.ranges
-
--- the ranges agree with the text
+-- the ranges agree with the text, and each change is of a version below the document's
 abbrev pub Agrees : Snapshot → Type 0
-Agrees look = (row : Row) × IsRowOf look row
+Agrees look = AreRangesAt look.ranges look.text look.version
 
 -- the update is for a version from the first to the present one, and not too old
 pub record InReach (look : Snapshot) : Type 0 where
@@ -71,6 +64,7 @@ pub record IsApplied (look : Snapshot) (op : List Comp) (text : List ℕ) (range
   pub applies : applied_all look.text op ≡ Some text
   pub short : length text ≤ longest
   pub tracked : IsStepsOf look.ranges op (stamp_of look) ranges
+  pub agree : AreRangesAt ranges text (look.version + 1)
   pub small : IsSmall op
 
 abbrev pub Applies : Snapshot → Decision → Type 0

@@ -3,6 +3,7 @@
 ghost use Rattle.std.specs.Prelude.{◌≡◌, ◌≤◌, length, Some, IsSome, IfOk};
 ghost use Rattle.ot_op.specs.Apply.{applied_all};
 ghost use Rattle.ranges_tracker.specs.Steady.{IsStepsOf};
+ghost use Rattle.ranges_tracker.specs.Trackable.{StayWithText};
 ghost use Rattle.journal_rules.specs.Deciding.{longest, fitted, decided_of};
 ghost use Rattle.dup_check.specs.Snapshot.{stamp_of, numbered, outcome_of, IsSmall, Agrees, InReach, IsReady, Applies, Keeps};
 
@@ -101,7 +102,8 @@ fn track_all(alloc: Global, look: &Snapshot, op: &Op) -> Result<Ranges, AllocErr
     requires short { length look.now.text ≤ longest }
     requires small { IsSmall op.now }
     requires applies { IsSome (applied_all look.now.text op.now) }
-    ensures { IfOk result (λ ranges. IsStepsOf look.now.ranges op.now (stamp_of look.now) ranges) }
+    ensures steps { IfOk result (λ ranges. IsStepsOf look.now.ranges op.now (stamp_of look.now) ranges) }
+    ensures stay { IfOk result (λ ranges. StayWithText look.now.ranges op.now (stamp_of look.now) ranges) }
 {
     let stamp = Stamp {
         version: look.version,

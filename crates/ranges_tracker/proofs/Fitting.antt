@@ -15,7 +15,8 @@ use Rattle.ranges_tracker.specs.declared.change.Change.{Change}
 use Rattle.ranges_tracker.specs.declared.comment.Comment.{Comment}
 use Rattle.ranges_tracker.specs.Shown.{meets, fused, touch, packed, live_cell, live_cells, gone_cells, up_to, past, merged, shown, shown_changes}
 use Rattle.ranges_tracker.specs.Ranged.{Roomy, RoomyAll, ranges_in}
-use Rattle.ranges_tracker.specs.Steady.{Within, GapsWithin, Steady, units_all, IsFit, IsFitStep}
+use Rattle.ranges_tracker.specs.Steady.{Within, GapsWithin, Steady, units_all}
+use Rattle.ranges_tracker.specs.Trackable.{IsFit, IsFitStep}
 use Rattle.ranges_tracker.specs.Ordered.{Lined, Rising}
 use Rattle.ranges_tracker.proofs.Cutting.{lined_cells}
 use Rattle.ranges_tracker.proofs.Placing.{rising_cells}
@@ -25,6 +26,7 @@ use Rattle.ranges_tracker.proofs.Commenting.{shown_on}
 use Rattle.ranges_tracker.proofs.Stepping.{if_some, Stands, stands_of, Same, step_is}
 use Rattle.ranges_tracker.proofs.Keeping.{keep_step, inserted_length, deleted_length}
 use Rattle.ranges_tracker.proofs.Folding.{text_step, First, first_of_all}
+use Rattle.ranges_tracker.proofs.Versions.{at_steady, in_steady}
 
 abbrev pub AtMost : ℕ → List Change → Type 0
 AtMost m [] = Unit {0}
@@ -170,7 +172,17 @@ roomy_all (c ∷ cs) row stamp k next s e room few =
     )
 
 pub fit_roomy : (ranges : List Change × List Comment) (cs : List Comp) (stamp : Stamp) → IsFit ranges cs stamp → RoomyAll ranges cs stamp 0
-fit_roomy ranges cs stamp f = subst (λ (r : List Change × List Comment). RoomyAll r cs stamp 0) f.is (roomy_all cs f.row stamp 0 f.next f.steady f.applies f.room (omega (arith, f.few)))
+fit_roomy ranges cs stamp f =
+    let row : Row = f.of.agree.row in
+    let size : length row.lives ≡ length f.text = sym (length-map row.lives (λ (l : Live). l.unit)) ∙ ap length f.of.agree.text_is in
+    let room = f.room in
+    subst (λ (r : List Change × List Comment). RoomyAll r cs stamp 0) f.of.agree.is
+    (roomy_all cs row stamp 0 f.next (at_steady ranges f.text stamp f.of) (ap (λ (t : List ℕ). applied_all t cs) f.of.agree.text_is ∙ f.applies) (omega (arith, size, room)) (omega (arith, f.few)))
 
 pub fit_one : (ranges : List Change × List Comment) (comp : Comp) (stamp : Stamp) (k : ℕ) → IsFitStep ranges comp stamp k → Roomy ranges comp k
-fit_one ranges comp stamp k f = subst (λ (r : List Change × List Comment). Roomy r comp k) f.is (roomy_one f.row comp stamp k f.next f.steady f.applies f.room f.few)
+fit_one ranges comp stamp k f =
+    let row : Row = f.of.agree.row in
+    let size : length row.lives ≡ length f.text = sym (length-map row.lives (λ (l : Live). l.unit)) ∙ ap length f.of.agree.text_is in
+    let room = f.room in
+    subst (λ (r : List Change × List Comment). Roomy r comp k) f.of.agree.is
+    (roomy_one row comp stamp k f.next (in_steady ranges f.text stamp k f.of) (ap (λ (t : List ℕ). applied t comp) f.of.agree.text_is ∙ f.applies) (omega (arith, size, room)) f.few)

@@ -51,3 +51,6 @@ steps_are (c ∷ cs) row stamp k next s e =
 -- the same of ranges that a row shows
 pub ranges_steps : (ranges : List Change × List Comment) (cs : List Comp) (stamp : Stamp) → IsStepsOf ranges cs stamp (ranges_all ranges cs stamp 0).ranges
 ranges_steps ranges cs stamp row text s is e = sym (ap (λ (r : Ranged). r.ranges) (steps_are cs row stamp 0 text s e)) ∙ ap (λ (r : List Change × List Comment). (ranges_all r cs stamp 0).ranges) is
+
+pub made_steps : (ranges : List Change × List Comment) (cs : List Comp) (stamp : Stamp) (made : List Change × List Comment) → made ≡ (ranges_all ranges cs stamp 0).ranges → IsStepsOf ranges cs stamp made
+made_steps ranges cs stamp made m row text s is e = ranges_steps ranges cs stamp row text s is e ∙ sym m

@@ -9,13 +9,10 @@ use Rattle.ranges_tracker.specs.Cells.{Mark, Live, Stamp, Row, same_mark, mark_a
 use Rattle.ranges_tracker.specs.declared.change.Change.{Change}
 use Rattle.ranges_tracker.specs.declared.change.ChangeKind.TheVariants.{Inserted}
 use Rattle.ranges_tracker.specs.Shown.{change, mark_of, same_kind, meets, fused, touch, packed, live_cell, live_cells}
+use Rattle.ranges_tracker.specs.Trackable.{IsOlder}
 use Rattle.ranges_tracker.specs.Tracked.{piece, heads, tails, over_before, moved, exchanged_mark, exchanged_in, new_insert, renewed_in, Marked, insert_in, cut_in}
 use Rattle.ranges_tracker.proofs.Packing.{same_mark_is, same_mark_self, touch_met, touch_apart, onto, onto-packed, packed-append, packed_parts}
 use Rattle.ranges_tracker.proofs.Cutting.{Lined, lined_cells, cell, Met, met_by, put_cell, packed_put, heads_cells, tails_cells, mark_over_is}
-
--- a change with a mark from before the update's mark number k
-abbrev pub IsOlder : ℕ → ℕ → Change → Type 0
-IsOlder version k c = (c.version ≤ version) × (c.version ≡ version → c.k < k)
 
 abbrev pub Older : ℕ → ℕ → List Change → Type 0
 Older version k [] = Unit {0}

@@ -20,7 +20,7 @@ use Rattle.ranges_tracker.proofs.Stepping.{if_some, Stands, stands_of}
 use Rattle.ranges_tracker.proofs.Gaps.{gaps_raised, gaps_taken}
 use Rattle.ranges_tracker.proofs.Lasting.{older_touch, lives_inserted, lives_deleted, lives_more, distinct_differ, distinct_placed, distinct_taken, raised_rises, squashed_rises, rising_join, rising_less, within_with, within_without, within_set}
 
-gone_packed : (v k : ℕ) (gs : List Gone) → OlderGone v k gs → Older v k (packed (gone_cells gs))
+pub gone_packed : (v k : ℕ) (gs : List Gone) → OlderGone v k gs → Older v k (packed (gone_cells gs))
 gone_packed v k [] h = tt
 gone_packed v k (g ∷ gs) h = older_touch v k _ (packed (gone_cells gs)) (h.0, h.1) (gone_packed v k gs h.2)
 

@@ -12,30 +12,6 @@ pub mod Rooms
 pub mod Commenting
 pub mod Stepping
 mod Rows
-mod FlatRows
-pub mod FlatParts
-pub mod FlatEdges
-pub mod FlatInserting
-pub mod FlatDeleting
-pub mod FlatCommenting
-pub mod FlatStepping
-pub mod FlatPlain
-pub mod FlatThreads
-pub mod FlatMarks
-pub mod FlatNeighbours
-pub mod FlatRuns
-pub mod FlatGroups
-pub mod FlatGrouping
-pub mod FlatRegrouping
-pub mod FlatMarked
-pub mod FlatCommented
-pub mod FlatKeeping
-pub mod FlatForms
-pub mod FlatLaid
-pub mod FlatLaidForm
-pub mod FlatAgreeing
-pub mod FlatFolding
-pub mod FlatShowing
 pub mod Lasting
 pub mod Gaps
 pub mod Keeping
@@ -48,6 +24,7 @@ pub mod Forms
 pub mod Formed
 pub mod Rebuilt
 pub mod Joining
+pub mod Trackable
 pub mod Versions
 pub mod Walking
 pub mod Together

@@ -2,22 +2,23 @@
 use Rattle.std.proofs.Common.{length, ◌≡◌, ℕ, ◌<◌, true, List, [], ◌∷◌, refl, arith, sym, subst}
 use Rattle.ot_op.specs.declared.comp.Comp.{Comp}
 use Rattle.ot_op.specs.declared.comp.Comp.TheVariants.{Ins, Del}
-use Rattle.ranges_tracker.specs.Cells.{Stamp, plain_row}
+use Rattle.ranges_tracker.specs.Cells.{Stamp}
 use Rattle.ranges_tracker.specs.declared.change.Change.{Change}
 use Rattle.ranges_tracker.specs.declared.comment.Comment.{Comment}
 use Rattle.ot_op.specs.Apply.{stands}
 use Rattle.ranges_tracker.specs.declared.change.ChangeKind.TheVariants.{Inserted}
-use Rattle.ranges_tracker.specs.Steady.{IsFit}
+use Rattle.ranges_tracker.specs.Trackable.{IsFit}
 use Rattle.ranges_tracker.specs.Agree.{IsBehind, IdsDiffer, StandsIn, ThreadsDiffer, IsKeptForm}
 use Rattle.ranges_tracker.specs.Kept.{IsKept}
 use Rattle.ranges_tracker.proofs.Forms.{each_all, pairs_all}
 use Rattle.ranges_tracker.proofs.Rebuilt.{form_agree}
+use Rattle.ranges_tracker.proofs.Versions.{plain_at}
 
 pub first_fit : (ranges : List Change × List Comment) (op : List Comp) (stamp : Stamp) → ranges ≡ ([], []) → op ≡ Ins 0 (97 ∷ 98 ∷ []) ∷ Del 0 (97 ∷ []) ∷ [] → IsFit ranges op stamp
 first_fit ranges op stamp r o =
     subst (λ (x : List Change × List Comment). IsFit x op stamp) (sym r)
     (subst (λ (x : List Comp). IsFit ([], []) x stamp) (sym o)
-    (record { row = plain_row []; next = 98 ∷ []; steady = record { rises = tt; gaps = tt; distinct = tt; lives = tt; gone = tt; threads = tt }; is = refl; applies = refl; room = omega arith; few = omega arith }))
+    (record { text = []; next = 98 ∷ []; of = plain_at [] stamp.version; applies = refl; room = omega arith; few = omega arith }))
 
 -- one insert and one comment on `a`, a line feed and `b`
 abbrev pub marked_changes : List ℕ → List Change

@@ -52,3 +52,7 @@ pub record IsKeptForm (ranges : List Change × List Comment) (text : List ℕ) :
 
 abbrev pub RangesAgree : Type 0
 RangesAgree = (ranges : List Change × List Comment) (text : List ℕ) → Agree ranges text ↔ IsKeptForm ranges text
+
+-- the version in each change's id is below this one
+abbrev pub IsSince : ℕ → List Change → Type 0
+IsSince version changes = All (λ (c : Change). c.version < version) changes

@@ -4,7 +4,7 @@ use Rattle.std.specs.List.{All}
 use Rattle.ot_parts.specs.Lines.{IsLine}
 use Rattle.ranges_tracker.specs.declared.change.Change.{Change}
 use Rattle.ranges_tracker.specs.declared.comment.Comment.{Comment}
-use Rattle.ranges_tracker.specs.Agree.{Agree}
+use Rattle.ranges_tracker.specs.Agree.{Agree, IsSince}
 
 -- a kept document: the lines of its text, its version, its changes and its comments
 pub record Kept : Type 0 where
@@ -16,10 +16,6 @@ pub record Kept : Type 0 where
 pub record AreLines (lines : List (List ℕ)) : Type 0 where
   pub each : All IsLine lines
   pub some : 0 < length lines
-
--- the version in each change's id is below the document's
-abbrev pub IsSince : ℕ → List Change → Type 0
-IsSince version changes = All (λ (c : Change). c.version < version) changes
 
 -- what can be kept
 pub record IsKept (text : List ℕ) (version : ℕ) (ranges : List Change × List Comment) : Type 0 where

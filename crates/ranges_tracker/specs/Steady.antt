@@ -64,33 +64,6 @@ abbrev pub units_all : List Comp → ℕ
 units_all [] = 0
 units_all (c ∷ cs) = units_of c + units_all cs
 
--- some row shows these ranges, and the component applies to its text within the bounds
-pub record IsFitStep (ranges : List Change × List Comment) (comp : Comp) (stamp : Stamp) (k : ℕ) : Type 0 where
-  pub row : Row
-  pub next : List ℕ
-  pub steady : Steady row stamp k
-  pub is : shown row ≡ ranges
-  pub applies : applied (text_of row.lives) comp ≡ Some next
-  pub room : length row.lives + units_of comp < 2 ^ 32
-  pub few : k + 2 < 2 ^ 32
-
--- some row shows these ranges, and the operation applies to its text within the bounds
-pub record IsFit (ranges : List Change × List Comment) (op : List Comp) (stamp : Stamp) : Type 0 where
-  pub row : Row
-  pub next : List ℕ
-  pub steady : Steady row stamp 0
-  pub is : shown row ≡ ranges
-  pub applies : applied_all (text_of row.lives) op ≡ Some next
-  pub room : length row.lives + units_all op < 2 ^ 32
-  pub few : 2 * length op < 2 ^ 32
-
 -- these are the ranges of the steps of each row that shows the ranges before
 abbrev pub IsStepsOf : List Change × List Comment → List Comp → Stamp → List Change × List Comment → Type 0
 IsStepsOf ranges op stamp next = (row : Row) (text : List ℕ) → Steady row stamp 0 → shown row ≡ ranges → applied_all (text_of row.lives) op ≡ Some text → shown (steps row op stamp 0).row ≡ next
-
--- some row shows these ranges of a text, and its marks are of versions below one
-pub record AreOf (ranges : List Change × List Comment) (text : List ℕ) (version : ℕ) : Type 0 where
-  pub row : Row
-  pub steady : (stamp : Stamp) → stamp.version ≡ version → Steady row stamp 0
-  pub text_is : text_of row.lives ≡ text
-  pub is : shown row ≡ ranges

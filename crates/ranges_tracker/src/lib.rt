@@ -9,7 +9,6 @@ mod comment;
 mod comments;
 mod covers;
 mod deletes;
-mod flat;
 mod inserts;
 mod kept;
 mod kinds;
@@ -27,7 +26,6 @@ mod tracking;
 
 pub use change::{Change, ChangeKind};
 pub use comment::Comment;
-pub use flat::{flat_rows_agree, flat_rows_stay_well_formed};
 pub use kept::KeptDoc;
 pub use laws::{ranges_agree, step_applies_to_text, step_keeps, well_formed_is_steady};
 pub use lines::Lines;

@@ -2,7 +2,7 @@
 
 ghost use Rattle.std.specs.Prelude.{◌≡◌, ◌∷◌, [], ◌<◌, ◌+◌, ◌^◌, length, false, IfOk, IsTrue};
 ghost use Rattle.ot_op.specs.Operation.{is_void, units_of};
-ghost use Rattle.ranges_tracker.specs.Steady.{AreOf};
+ghost use Rattle.ranges_tracker.specs.Trackable.{AreRangesAt};
 
 use crate::{Change, ChangeKind, Comment, KeptDoc, Ranges, Stamp, track, track_op};
 use Kind::{Comments, Deletes, Inserts};
@@ -354,8 +354,8 @@ fn update(
     comp: Comp,
     stamp: &Stamp,
 ) -> Result<Ranges, Fail>
-    requires { AreOf ranges text.old stamp.now.version }
-    ensures { IfOk result (λ made. AreOf made text.new (stamp.now.version + 1)) }
+    requires { AreRangesAt ranges text.old stamp.now.version }
+    ensures { IfOk result (λ made. AreRangesAt made text.new (stamp.now.version + 1)) }
 {
     if !is_small(text, &comp) {
         return Err(Fail::from("a small case"));

@@ -3,7 +3,8 @@
 ghost use Rattle.std.specs.Prelude.{◌≡◌, IfOk, OnOk, OnErr, IfErr};
 ghost use Rattle.ranges_tracker.specs.Tracked.{changes_in};
 ghost use Rattle.ranges_tracker.specs.Ranged.{ranges_in, ranges_all, Roomy};
-ghost use Rattle.ranges_tracker.specs.Steady.{IsFit, IsFitStep, IsStepOf, IsStepsOf};
+ghost use Rattle.ranges_tracker.specs.Steady.{IsStepOf, IsStepsOf};
+ghost use Rattle.ranges_tracker.specs.Trackable.{IsFit, IsFitStep, StaysInStep, StayWithText};
 
 use crate::changes::changes_after;
 use crate::comments::comments_after;
@@ -49,6 +50,7 @@ pub fn track(
 ) -> Result<Ranges, (AllocError, Ranges)>
     requires { IsFitStep ranges comp.now stamp.now marks.old }
     ensures step { IfOk result (λ r. IsStepOf ranges comp.now stamp.now marks.old r marks.new) }
+    ensures stays { IfOk result (λ r. StaysInStep ranges comp.now stamp.now marks.old r marks.new) }
     ensures value { IfOk result (λ r. r ≡ ranges_in ranges comp.now stamp.now marks.old) }
     ensures err { OnErr result (marks.new ≡ marks.old) }
     ensures back { IfErr result (λ e. e.1 ≡ ranges) }
@@ -69,6 +71,7 @@ pub fn track_op(
 ) -> Result<Ranges, AllocError>
     requires { IsFit ranges.now op.now stamp.now }
     ensures steps { IfOk result (λ r. IsStepsOf ranges.now op.now stamp.now r) }
+    ensures stay { IfOk result (λ r. StayWithText ranges.now op.now stamp.now r) }
     ensures value { IfOk result (λ r. r ≡ (ranges_all ranges.now op.now stamp.now 0).ranges) }
 {
     let mut made = ranges.copy(alloc)?;

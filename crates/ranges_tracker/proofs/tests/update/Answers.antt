@@ -1,9 +1,9 @@
 use Rattle.std.proofs.Common.{◌≡◌, ◌∙◌, ◌∷◌, [], List, ℕ, refl, ap, sym, subst, get_or, Some}
 use Rattle.ot_op.specs.Apply.{applied, applied_all}
 use Rattle.ot_op.specs.declared.comp.Comp.{Comp}
-use Rattle.ranges_tracker.specs.Steady.{IsFitStep, IsStepOf}
+use Rattle.ranges_tracker.specs.Trackable.{IsFitStep, StaysInStep}
 use Rattle.ranges_tracker.proofs.Folding.{First, first_of_all}
-use Rattle.ranges_tracker.proofs.Versions.{fit_of, next_of}
+use Rattle.ranges_tracker.proofs.Versions.{at_in, fit_of, in_next}
 use Rattle.ranges_tracker.proofs.tests.update.Goals as goal
 
 -- an operation of one component
@@ -24,5 +24,7 @@ track-requires c =
 pub returns-in-Ok-track : goal.returns-in-Ok-track
 returns-in-Ok-track c =
     let first = first_is c.comps.result.now c.in_ok-op.op c.args.comp c.index-comps-0.result c.comps.ensures.value c.in_ok-op.ensures c.index-comps-0.is in
-    next_of c.args.ranges c.in-Ok-track.made c.args.text.now c.apply.new.text c.args.comp c.args.stamp.now c.track.new.marks c.requires (applied_one c.args.text.now c.in_ok-op.op c.args.comp c.apply.new.text c.in_ok-op.ensures c.in-Ok.ensures.ok)
-    (subst (λ (x : Comp). IsStepOf c.args.ranges x c.args.stamp.now 0 c.in-Ok-track.made c.track.new.marks) first c.in-Ok-track.ensures.step)
+    in_next c.in-Ok-track.made c.apply.new.text c.args.stamp.now c.track.new.marks
+    (subst (λ (x : Comp). StaysInStep c.args.ranges x c.args.stamp.now 0 c.in-Ok-track.made c.track.new.marks) first c.in-Ok-track.ensures.stays c.args.text.now c.apply.new.text
+    (at_in c.args.ranges c.args.text.now c.args.stamp.now c.requires)
+    (applied_one c.args.text.now c.in_ok-op.op c.args.comp c.apply.new.text c.in_ok-op.ensures c.in-Ok.ensures.ok))

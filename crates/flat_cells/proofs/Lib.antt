@@ -1,0 +1,24 @@
+mod Rows
+pub mod Parts
+pub mod Edges
+pub mod Inserting
+pub mod Deleting
+pub mod Commenting
+pub mod Stepping
+pub mod Plain
+pub mod Threads
+pub mod Marks
+pub mod Neighbours
+pub mod Runs
+pub mod Groups
+pub mod Grouping
+pub mod Regrouping
+pub mod Marked
+pub mod Commented
+pub mod Keeping
+pub mod Forms
+pub mod Laid
+pub mod LaidForm
+pub mod Agreeing
+pub mod Folding
+pub mod Showing

@@ -1,3 +1,0 @@
-pub mod Units
-pub mod Marks
-pub mod Rows
