@@ -10,7 +10,3 @@ pub mod History
 pub mod Whys
 pub mod Legal
 pub mod Fence
-pub mod ClientLaw
-pub mod Once
-pub mod Mismatch
-pub mod CellsLaw

@@ -27,18 +27,18 @@ use Rattle.journal_rules.specs.Locks.{clock}
 use Rattle.journal_rules.specs.Whys.{most_units}
 use Rattle.journal_rules.specs.Client.{client, places_fit, flight_fits, greatest_place, is_alive, sending}
 use Rattle.journal_rules.specs.Legal.{IsAllowed, IsLegal, IsRaw, IsSending}
-use Rattle.journal_rules.specs.ClientLaw.{flown, Shows}
+use Rattle.journal_laws.specs.ClientLaw.{flown, Shows}
 use Rattle.journal_rules.proofs.Pushing.{makings-push, makings-none}
 use Rattle.journal_rules.proofs.Legality.{Keeps, by_last}
 use Rattle.journal_rules.proofs.Lists.{AllIn, Each, all_in-append, some_same}
 use Rattle.journal_rules.proofs.Replaying.{ops, replays_on}
-use Rattle.journal_rules.proofs.Alive.{IsItem}
-use Rattle.journal_rules.proofs.World.{sent_is, joined_alive}
-use Rattle.journal_rules.proofs.Updates.{update_new, Sends, Fresh, Again, sending_is}
-use Rattle.journal_rules.proofs.Everything.{world}
-use Rattle.journal_rules.proofs.Unmade.{unmade_applied}
-use Rattle.journal_rules.proofs.Laws.{shows}
-use Rattle.journal_rules.proofs.Staying.{small}
+use Rattle.journal_laws.proofs.Alive.{IsItem}
+use Rattle.journal_laws.proofs.World.{sent_is, joined_alive}
+use Rattle.journal_laws.proofs.Updates.{update_new, Sends, Fresh, Again, sending_is}
+use Rattle.journal_laws.proofs.Everything.{world}
+use Rattle.journal_laws.proofs.Unmade.{unmade_applied}
+use Rattle.journal_laws.proofs.Laws.{shows}
+use Rattle.journal_laws.proofs.Staying.{small}
 use Rattle.journal_rules.proofs.Sizes as rules
 use Rattle.journal_rules.proofs.Sizes.{all_size, edits_least, comments_least, IsLightFlight}
 use Rattle.plain_journal.specs.Sizes.{IsLight, IsSized, AreSized}

@@ -14,15 +14,15 @@ use Rattle.journal_rules.specs.Documents.{Item, applied_list, base, operations}
 use Rattle.journal_rules.specs.Mail.{mail, mail_in}
 use Rattle.journal_rules.specs.Client as rules
 use Rattle.journal_rules.specs.Legal.{IsLegal, highest_base}
-use Rattle.journal_rules.specs.ClientLaw.{Delivers, items_from, Shows}
+use Rattle.journal_laws.specs.ClientLaw.{Delivers, items_from, Shows}
 use Rattle.journal_rules.proofs.Pushing.{client-push, client-none}
 use Rattle.journal_rules.proofs.Waits.{by_end}
 use Rattle.journal_rules.proofs.Lists.{AllIn}
 use Rattle.journal_rules.proofs.Replaying.{ops}
-use Rattle.journal_rules.proofs.World.{delivered_number}
-use Rattle.journal_rules.proofs.Unmade.{version_low}
-use Rattle.journal_rules.proofs.Everything.{world}
-use Rattle.journal_rules.proofs.Laws.{shows}
+use Rattle.journal_laws.proofs.World.{delivered_number}
+use Rattle.journal_laws.proofs.Unmade.{version_low}
+use Rattle.journal_laws.proofs.Everything.{world}
+use Rattle.journal_laws.proofs.Laws.{shows}
 use Rattle.plain_journal.specs.declared.clients.Client.{Client}
 use Rattle.plain_journal.specs.Answers.{client_as}
 use Rattle.plain_journal.specs.Sizes.{IsSized, AreSized}

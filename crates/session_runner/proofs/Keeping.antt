@@ -6,6 +6,7 @@ use Rattle.std.specs.Str.{bytes_eq}
 use Rattle.std.proofs.lemmas.Option.{slice_get_within}
 use Rattle.std.proofs.lemmas.List.{length-set}
 use Rattle.std.proofs.lemmas.Bool.Decides.{eqb_tells}
+use Rattle.ranges_tracker.specs.Trackable.{IsTracked}
 use Rattle.ranges_tracker.specs.Cells.{Row, plain_row}
 use Rattle.dup_check.specs.Window.{Recent}
 use Rattle.journal_entries.specs.declared.update.Update.{Update}
@@ -22,7 +23,7 @@ use Rattle.journal_rules.proofs.Waits.{one_if, waits_sent, waiting-more, waiting
 use Rattle.session_runner.specs.declared.document.Document.{Document}
 use Rattle.session_runner.specs.declared.document.Settled.{Settled}
 use Rattle.session_runner.specs.Legal.{IsAllowed, IsLegal}
-use Rattle.session_runner.specs.Deciding.{Becomes, IsSame, IsTracked, WasApplied}
+use Rattle.session_runner.specs.Deciding.{Becomes, IsSame, WasApplied}
 use Rattle.session_runner.specs.Desk.{IsWindowOf, IsDocument, AreDocuments, IsQuiet, Queues, Changes, IsNew, CanSettle, Settles}
 use Rattle.session_runner.proofs.Legality.{seam, last_or, legal_push}
 use Rattle.session_runner.proofs.Unmade.{committed_below, unmade_waits, unmade_applied, version_low, sent_raw}

@@ -2,7 +2,6 @@ pub mod Lists
 pub mod Legality
 pub mod Unmade
 pub mod Reaching
-pub mod Tracks
 pub mod Looking
 pub mod Rooms
 pub mod Standing

@@ -7,10 +7,12 @@ use Rattle.std.proofs.lemmas.List.Elements.{All-drop}
 use Rattle.ot_op.specs.declared.comp.Comp.{Comp}
 use Rattle.ot_op.specs.Apply.{applied_all}
 use Rattle.ot_transform.specs.Room.{FitsAll}
+use Rattle.ranges_tracker.specs.Trackable.{IsTracked}
 use Rattle.ranges_tracker.specs.Cells.{Row, steps}
 use Rattle.ranges_tracker.specs.Shown.{shown}
 use Rattle.ranges_tracker.specs.Steady.{OlderLives, OlderGone, Steady}
 use Rattle.ranges_tracker.proofs.WellKept.{well_steady}
+use Rattle.ranges_tracker.proofs.Versions.{tracked_at}
 use Rattle.ranges_tracker.specs.declared.change.Change.{Change}
 use Rattle.ranges_tracker.specs.declared.comment.Comment.{Comment}
 use Rattle.dup_check.specs.declared.past.Past.{Past}
@@ -18,7 +20,7 @@ use Rattle.dup_check.specs.declared.snapshot.Snapshot.{Snapshot}
 use Rattle.dup_check.specs.declared.snapshot.Decision.{Decision}
 use Rattle.dup_check.specs.declared.snapshot.Decision.TheVariants.{Apply, Dup, Refuse}
 use Rattle.dup_check.specs.Window.{Recent, last_of, most, pushed, reaches, since_in}
-use Rattle.dup_check.specs.Snapshot.{Agrees, Applies, InReach, IsReady, IsRowOf, IsSmall, numbered, operations, outcome_of, stamp_of}
+use Rattle.dup_check.specs.Snapshot.{Agrees, Applies, InReach, IsReady, IsSmall, numbered, operations, outcome_of, stamp_of}
 use Rattle.journal_entries.specs.declared.update.Update.{Update}
 use Rattle.journal_entries.specs.declared.update.Outcome.{Outcome}
 use Rattle.journal_entries.specs.declared.update.Outcome.TheVariants.{Applied, Refused}
@@ -27,7 +29,7 @@ use Rattle.journal_rules.specs.Deciding.{decided_of, longest}
 use Rattle.journal_rules.specs.Legal.{IsRaw}
 use Rattle.session_runner.specs.declared.document.Document.{Document}
 use Rattle.session_runner.specs.Passing.{past_or_none, passed_by}
-use Rattle.session_runner.specs.Deciding.{Becomes, IsPassable, IsSame, IsTracked, WasApplied, stamp_at}
+use Rattle.session_runner.specs.Deciding.{Becomes, IsPassable, IsSame, WasApplied, stamp_at}
 use Rattle.session_runner.specs.Desk.{IsDecidable, decision_on}
 use Rattle.session_runner.specs.Looking.{IsLook, IsTakenUp, HasText}
 use Rattle.session_runner.proofs.Rooms.{fits_past, raw_small}
@@ -40,14 +42,7 @@ module _ (old : Document) (u : Update) (look : Snapshot) (is : IsLook old u look
       (subst (λ (n : ℕ). OlderLives n 0 row.lives) (sym is.version_is) tracked.older_lives, subst (λ (n : ℕ). OlderGone n 0 row.gone) (sym is.version_is) tracked.older_gone)
 
   pub agrees : IsDecidable old → Agrees look
-  agrees can = (
-    can.row,
-    record {
-      steady = steady can.row can.tracked;
-      text = can.tracked.text_is ∙ sym is.text_is;
-      ranges = can.tracked.ranges_are ∙ sym is.ranges_are;
-    },
-  )
+  agrees can = rw (is.text_is, is.ranges_are, is.version_is) (tracked_at can.row old.text old.ranges old.window.version can.tracked)
 
   pub short_look : IsDecidable old → length look.text ≤ longest
   short_look can = subst (λ (t : List ℕ). length t ≤ longest) (sym is.text_is) can.short

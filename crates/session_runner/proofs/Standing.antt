@@ -4,6 +4,7 @@ use Rattle.std.specs.Prelude.{slice_get, Option, Some, None}
 use Rattle.std.proofs.lemmas.List.{map-append, length-map, length-drop}
 use Rattle.std.proofs.lemmas.List.Elements.{All-nil, All-push, All-drop}
 use Rattle.ot_op.specs.declared.comp.Comp.{Comp}
+use Rattle.ranges_tracker.specs.Trackable.{IsTracked}
 use Rattle.ranges_tracker.specs.Cells.{Row, plain_row, steps}
 use Rattle.ranges_tracker.specs.Shown.{shown}
 use Rattle.ranges_tracker.specs.declared.change.Change.{Change}
@@ -21,10 +22,11 @@ use Rattle.journal_rules.specs.Tracking.{tracked, cells, stamp_of}
 use Rattle.journal_rules.specs.Deciding.{Passed, passed_of, longest}
 use Rattle.journal_rules.proofs.Replaying.{replays_on}
 use Rattle.session_runner.specs.declared.document.Document.{Document}
-use Rattle.session_runner.specs.Deciding.{Becomes, IsPassable, IsSame, IsTracked, WasApplied, farthest}
+use Rattle.session_runner.specs.Deciding.{Becomes, IsPassable, IsSame, WasApplied, farthest}
 use Rattle.session_runner.specs.Desk.{past_of, pasts, IsDecidable, IsDocument, IsNew, IsWindowOf}
 use Rattle.session_runner.proofs.Reaching.{near_enough}
-use Rattle.session_runner.proofs.Tracks.{plain_tracked, steps_tracked, tracked-push}
+use Rattle.ranges_tracker.proofs.Versions.{plain_tracked, steps_tracked}
+use Rattle.journal_rules.proofs.Growing.{tracked-append}
 
 pub same_self : (document : Document) → IsSame document document
 same_self document = record { name_is = refl; text_is = refl; ranges_are = refl; window_is = refl }
@@ -112,7 +114,7 @@ applied_on d old new j k ticket v u op ms items waits is was = record {
     at = is.version_is ∙ was.window_is.version_is
 
     rows : cells d k ≡ (steps (cells d j) op (stamp_of x) 0).row
-    rows = ap₂ (λ (o : Option Making) (l : List Item). tracked (plain_row (first_in o)) l) ms items ∙ tracked-push (plain_row (first_in (slice_get (makings j) d))) (applied_list d j) x
+    rows = ap₂ (λ (o : Option Making) (l : List Item). tracked (plain_row (first_in o)) l) ms items ∙ tracked-append (plain_row (first_in (slice_get (makings j) d))) (applied_list d j) (x ∷ [])
 
     next_version : version d k ≡ version d j + 1
     next_version =

@@ -3,13 +3,10 @@ use Rattle.std.specs.Prelude.{◌≡◌, ℕ, ◌≤◌, List, length, Some}
 use Rattle.ot_op.specs.declared.comp.Comp.{Comp}
 use Rattle.ot_op.specs.Apply.{applied_all}
 use Rattle.ot_transform.specs.Size.{Within}
-use Rattle.ranges_tracker.specs.Cells.{Row, steps, text_of}
+use Rattle.ranges_tracker.specs.Cells.{Row, steps}
 use Rattle.ranges_tracker.specs.declared.stamp.Stamp.{Stamp}
 use Rattle.ranges_tracker.specs.Shown.{shown}
-use Rattle.ranges_tracker.specs.Steady.{OlderLives, OlderGone}
-use Rattle.ranges_tracker.specs.WellFormed.{IsWellFormed}
-use Rattle.ranges_tracker.specs.declared.change.Change.{Change}
-use Rattle.ranges_tracker.specs.declared.comment.Comment.{Comment}
+use Rattle.ranges_tracker.specs.Trackable.{IsTracked}
 use Rattle.dup_check.specs.Window.{pushed}
 use Rattle.dup_check.specs.Snapshot.{IsSmall}
 use Rattle.journal_entries.specs.declared.update.Update.{Update}
@@ -17,14 +14,6 @@ use Rattle.journal_entries.specs.declared.update.Outcome.{Outcome}
 use Rattle.journal_entries.specs.declared.update.Outcome.TheVariants.{Applied, Dup, Refused}
 use Rattle.journal_rules.specs.Deciding.{longest}
 use Rattle.session_runner.specs.declared.document.Document.{Document}
-
--- cells that show a document's ranges over its text, with the marks of lower versions than this
-pub record IsTracked (row : Row) (text : List ℕ) (ranges : List Change × List Comment) (v : ℕ) : Type 0 where
-  pub well_formed : IsWellFormed row
-  pub older_lives : OlderLives v 0 row.lives
-  pub older_gone : OlderGone v 0 row.gone
-  pub text_is : text_of row.lives ≡ text
-  pub ranges_are : shown row ≡ ranges
 
 -- the stamp of an update that is applied to a version
 abbrev pub stamp_at : ℕ → Update → Stamp

@@ -1,5 +1,6 @@
 -- The desk: a journal, and its documents as the journal has them.
 use Rattle.std.specs.Prelude.{◌≡◌, ◌≢◌, ℕ, ◌-◌, ◌<◌, ◌≤◌, min, Bool, true, false, List, [], ◌∷◌, ◌++◌, length, map, slice_get, All, Option, Some, None, ⊤}
+use Rattle.ranges_tracker.specs.Trackable.{IsTracked}
 use Rattle.ranges_tracker.specs.Cells.{Row}
 use Rattle.dup_check.specs.declared.past.Past.{Past}
 use Rattle.dup_check.specs.Window.{Recent, empty_at, most, recent}
@@ -18,7 +19,7 @@ use Rattle.session_runner.specs.declared.document.Settled.{Settled}
 use Rattle.session_runner.specs.declared.desk.Desk.{Desk}
 use Rattle.session_runner.specs.Legal.{IsLegal}
 use Rattle.session_runner.specs.Passing.{passed_by}
-use Rattle.session_runner.specs.Deciding.{Becomes, IsPassable, IsSame, IsTracked}
+use Rattle.session_runner.specs.Deciding.{Becomes, IsPassable, IsSame}
 
 -- an operation that was applied, as a window keeps it
 abbrev pub past_of : Item → Past

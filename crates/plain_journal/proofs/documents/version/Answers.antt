@@ -1,7 +1,7 @@
 use Rattle.std.proofs.Common.{◌≡◌, ◌∙◌, ap, sym, length, arith}
 use Rattle.std.proofs.lemmas.List.{length-map}
 use Rattle.journal_rules.specs.Documents.{applied_list, base}
-use Rattle.journal_rules.proofs.Unmade.{version_low}
+use Rattle.journal_laws.proofs.Unmade.{version_low}
 use Rattle.plain_journal.specs.Answers.{item_as}
 use Rattle.plain_journal.proofs.documents.version.Goals as goal
 

@@ -1,0 +1,17 @@
+pub mod Alive
+pub mod Stepping
+pub mod Updates
+pub mod Mailing
+pub mod World
+pub mod ItemsOn
+pub mod ClientsOn
+pub mod Joins
+pub mod Everything
+pub mod Laws
+pub mod Staying
+pub mod Duplicates
+pub mod Mismatches
+pub mod Unmade
+pub mod Rows
+pub mod Legals
+pub mod Cells

@@ -1,0 +1,4 @@
+pub mod ClientLaw
+pub mod Once
+pub mod Mismatch
+pub mod CellsLaw

@@ -1,5 +1,0 @@
-use Rattle.journal_rules.proofs.Cells.{cells_of_text}
-use Rattle.journal_rules.proofs.cells_are_the_text.Goals as goal
-
-pub returns : goal.returns
-returns c = cells_of_text
