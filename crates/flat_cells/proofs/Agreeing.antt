@@ -1,6 +1,7 @@
 -- Ranges agree with a text by flat rows where they do by rows in coordinates.
 use Rattle.std.proofs.Common.{◌≡◌, ◌↔◌, ℕ, List, ap, sym, ◌∙◌}
-use Rattle.ranges_tracker.specs.Cells.{Stamp, Row, text_of}
+use Rattle.ranges_tracker.specs.declared.stamp.Stamp.{Stamp}
+use Rattle.ranges_tracker.specs.Cells.{Row, text_of}
 use Rattle.ranges_tracker.specs.declared.change.Change.{Change}
 use Rattle.ranges_tracker.specs.declared.comment.Comment.{Comment}
 use Rattle.ranges_tracker.specs.Shown.{shown}

@@ -5,7 +5,8 @@ use Rattle.std.specs.List.{list_any}
 use Rattle.std.proofs.lemmas.Bool.{cases_Bool, or_parts, or_cases, or_left, or_right, cond-true, cond-false, eqb-true}
 use Rattle.std.proofs.lemmas.List.Folds.{list_any-append}
 use Rattle.std.proofs.lemmas.List.Elements.{All-nil, All-cons, All-head, All-tail}
-use Rattle.ranges_tracker.specs.Cells.{Mark, Stamp}
+use Rattle.ranges_tracker.specs.declared.mark.Mark.{Mark}
+use Rattle.ranges_tracker.specs.declared.stamp.Stamp.{Stamp}
 use Rattle.flat_cells.specs.Row.{Cell, Start, End, is_start, is_end, lives_of, before, from_gap, gaps, behind, until, ends_earlier, earlier_ends, without_earlier_ends}
 use Rattle.flat_cells.specs.Step.{unthreaded, with_start, with_end, with_empty, threaded, listed}
 use Rattle.flat_cells.specs.Form.{IsThread, IsOnceEach, names, is_edge, is_live_of, is_gone_of, AreNeighbours}

@@ -5,7 +5,9 @@ use Rattle.std.specs.List.{list_any, flat_map}
 use Rattle.std.proofs.lemmas.Bool.{cond-true, cond-false, eq-eqb, ne_eqb, lt-ltb, le-ltb}
 use Rattle.std.proofs.lemmas.List.{length-take-le, map-append, drop-drop}
 use Rattle.std.proofs.lemmas.List.Elements.{filter-append}
-use Rattle.ranges_tracker.specs.Cells.{Mark, Stamp, Live as LiveUnit, Gone as GoneUnit, Thread, fresh_mark, squashed, shifted, units_in, unmarked, mixed, some_unmarked, gone_at, deleted}
+use Rattle.ranges_tracker.specs.declared.mark.Mark.{Mark}
+use Rattle.ranges_tracker.specs.declared.stamp.Stamp.{Stamp}
+use Rattle.ranges_tracker.specs.Cells.{Live as LiveUnit, Gone as GoneUnit, Thread, fresh_mark, squashed, shifted, units_in, unmarked, mixed, some_unmarked, gone_at, deleted}
 use Rattle.flat_cells.specs.Row.{Cell, Live, Gone, Start, End, FlatRow, is_live, is_gone, is_start, is_end, lives_of, gone_from, before, from_gap, gaps, behind, gap_of, ends_earlier, earlier_ends, without_earlier_ends, sorted_by, grouped, thread_of, row_of}
 use Rattle.flat_cells.specs.Step.{taken_out, flat_deleted}
 use Rattle.flat_cells.specs.Form.{IsWellFormedFlat}

@@ -2,7 +2,8 @@
 use Rattle.std.proofs.Common.{◌≡◌, ℕ, ◌<◌, List, [], ◌∷◌, refl, ap, ap₂, ◌∙◌, arith, Some, ⊎_elim, inl}
 use Rattle.ot_op.specs.Apply.{applied, applied_all}
 use Rattle.ot_op.specs.declared.comp.Comp.{Comp}
-use Rattle.ranges_tracker.specs.Cells.{Stamp, Row, text_of, steps}
+use Rattle.ranges_tracker.specs.declared.stamp.Stamp.{Stamp}
+use Rattle.ranges_tracker.specs.Cells.{Row, text_of, steps}
 use Rattle.flat_cells.specs.Row.{Cell, FlatRow, lives_of, row_of}
 use Rattle.flat_cells.specs.Step.{flat_step}
 use Rattle.flat_cells.specs.Form.{IsWellFormedFlat, AreOlder}

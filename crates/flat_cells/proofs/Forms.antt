@@ -4,7 +4,9 @@ use Rattle.std.specs.Prelude.{◌==◌, ◌||◌}
 use Rattle.std.specs.List.{list_any}
 use Rattle.std.proofs.lemmas.Bool.{cases_Bool, cases_lt, or_cases, or_parts, or_left, or_right, and_parts, eqb-true, cond-false}
 use Rattle.std.proofs.lemmas.List.Elements.{All-head, All-tail}
-use Rattle.ranges_tracker.specs.Cells.{Mark, Stamp, Live as LiveUnit, Gone as GoneUnit, same_mark, bears, mark_at}
+use Rattle.ranges_tracker.specs.declared.mark.Mark.{Mark}
+use Rattle.ranges_tracker.specs.declared.stamp.Stamp.{Stamp}
+use Rattle.ranges_tracker.specs.Cells.{Live as LiveUnit, Gone as GoneUnit, same_mark, bears, mark_at}
 use Rattle.ranges_tracker.specs.Steady.{GapsWithin, Within, OlderMark, OlderLives, OlderGone}
 use Rattle.ranges_tracker.specs.WellFormed.{NotListed, ListedOnce, OnLive, OnGone, OnRow, TogetherLives, TogetherGone, IsWellFormed, IsBefore}
 use Rattle.flat_cells.specs.Row.{Cell, Live, Gone, Start, End, FlatRow, is_end, lives_of, gone_from, thread_of, row_of}

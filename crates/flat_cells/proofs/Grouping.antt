@@ -5,7 +5,9 @@ use Rattle.std.specs.List.{list_any}
 use Rattle.std.proofs.lemmas.Bool.{cases_Bool}
 use Rattle.std.proofs.lemmas.List.{map-append}
 use Rattle.std.proofs.lemmas.List.Folds.{list_any-append}
-use Rattle.ranges_tracker.specs.Cells.{Mark, Stamp, renewed, exchanged}
+use Rattle.ranges_tracker.specs.declared.mark.Mark.{Mark}
+use Rattle.ranges_tracker.specs.declared.stamp.Stamp.{Stamp}
+use Rattle.ranges_tracker.specs.Cells.{renewed, exchanged}
 use Rattle.flat_cells.specs.Row.{Cell, Live, Gone, Start, End, is_gone, is_start, lives_of, before, from_gap, gaps, ends_earlier, earlier_ends, without_earlier_ends, sorted_by, grouped}
 use Rattle.flat_cells.specs.Step.{exchanged_cell, remarked_cells, new_cells}
 use Rattle.flat_cells.proofs.Parts.{EndsLive, BeginsLive, lives-append, no_lives}

@@ -6,7 +6,9 @@ use Rattle.std.proofs.lemmas.Bool.{cases_Bool, or_parts, or_left, or_right, cond
 use Rattle.std.proofs.lemmas.List.{length-take-le, map-append}
 use Rattle.std.proofs.lemmas.List.Folds.{list_any-append}
 use Rattle.std.proofs.lemmas.List.Elements.{All-head, All-tail}
-use Rattle.ranges_tracker.specs.Cells.{Mark, Stamp, Live as LiveUnit, Gone as GoneUnit, Thread, Row, same_mark, bears, mark_at, mark_before, chosen, torn, renewed, exchanged, remarked, new_lives, raised, shifted, inserted}
+use Rattle.ranges_tracker.specs.declared.mark.Mark.{Mark}
+use Rattle.ranges_tracker.specs.declared.stamp.Stamp.{Stamp}
+use Rattle.ranges_tracker.specs.Cells.{Live as LiveUnit, Gone as GoneUnit, Thread, Row, same_mark, bears, mark_at, mark_before, chosen, torn, renewed, exchanged, remarked, new_lives, raised, shifted, inserted}
 use Rattle.flat_cells.specs.Row.{Cell, Live, Gone, Start, End, FlatRow, is_start, is_end, lives_of, gone_from, before, from_gap, gaps, behind, until, gap_of, ends_earlier, earlier_ends, without_earlier_ends, thread_of, row_of}
 use Rattle.flat_cells.specs.Step.{exchanged_cell, remarked_cells, new_cells, flat_inserted}
 use Rattle.flat_cells.specs.Form.{IsThread, IsWellFormedFlat, is_live_of, is_gone_of}

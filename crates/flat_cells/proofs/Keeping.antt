@@ -10,7 +10,9 @@ use Rattle.ot_units.specs.Text.{put_at, cut_at}
 use Rattle.ot_op.specs.Apply.{applied, stands}
 use Rattle.ot_op.specs.declared.comp.Comp.{Comp}
 use Rattle.ot_op.specs.declared.comp.Comp.TheVariants.{Ins, Del, Com}
-use Rattle.ranges_tracker.specs.Cells.{Mark, Stamp, Live as LiveUnit, text_of, some_unmarked, mark_at, mark_before, chosen, torn, renewed, fresh_mark}
+use Rattle.ranges_tracker.specs.declared.mark.Mark.{Mark}
+use Rattle.ranges_tracker.specs.declared.stamp.Stamp.{Stamp}
+use Rattle.ranges_tracker.specs.Cells.{Live as LiveUnit, text_of, some_unmarked, mark_at, mark_before, chosen, torn, renewed, fresh_mark}
 use Rattle.flat_cells.specs.Row.{Cell, FlatRow, is_start, is_end, lives_of, before, from_gap, gaps, behind, ends_earlier, without_earlier_ends, grouped}
 use Rattle.flat_cells.specs.Step.{remarked_cells, new_cells, unthreaded, threaded, listed, flat_inserted, flat_deleted, flat_step}
 use Rattle.flat_cells.specs.Form.{IsThread, IsWellFormedFlat, is_edge, is_gone_of, AreNeighbours, AreOlder}

@@ -3,7 +3,8 @@ use Rattle.std.proofs.Common.{◌≡◌, ℕ, ◌+◌, ◌<◌, ◌≤◌, Bool,
 use Rattle.std.specs.Prelude.{◌||◌, ◌&&◌, ◌==◌, if◌then◌else◌, nat_le, nat_lt}
 use Rattle.std.specs.List.{list_any, flat_map}
 use Rattle.std.proofs.lemmas.Bool.{cases_Bool, cases_lt, cases_eq, cond-true, cond-false, eq-eqb, ne_eqb, leb-true, leb-false, le-leb, lt-ltb, le-ltb}
-use Rattle.ranges_tracker.specs.Cells.{Mark, Live as LiveUnit, Gone as GoneUnit, Thread}
+use Rattle.ranges_tracker.specs.declared.mark.Mark.{Mark}
+use Rattle.ranges_tracker.specs.Cells.{Live as LiveUnit, Gone as GoneUnit, Thread}
 use Rattle.ranges_tracker.specs.Steady.{RisingGone, GapsWithin, Within}
 use Rattle.ranges_tracker.specs.WellFormed.{NotListed, ListedOnce}
 use Rattle.flat_cells.specs.Row.{Cell, Live, Gone, Start, End, is_start, is_end, lives_of, gone_from, gap_of, thread_of}

@@ -4,7 +4,8 @@ use Rattle.std.specs.Prelude.{◌||◌, ◌&&◌, ◌==◌, not, if◌then◌els
 use Rattle.std.specs.List.{list_any, flat_map}
 use Rattle.std.proofs.lemmas.Bool.{cases_Bool, cases_lt, cases_eq, or_parts, or_cases, and_parts, and_from, cond-true, cond-false, eqb-true, eq-eqb, ne_eqb, leb-true, lt-ltb, le-ltb}
 use Rattle.std.proofs.lemmas.List.Elements.{All-nil, All-cons, filter-append}
-use Rattle.ranges_tracker.specs.Cells.{Mark, Live as LiveUnit, Gone as GoneUnit, Thread, Row, same_mark, bears, mark_at}
+use Rattle.ranges_tracker.specs.declared.mark.Mark.{Mark}
+use Rattle.ranges_tracker.specs.Cells.{Live as LiveUnit, Gone as GoneUnit, Thread, Row, same_mark, bears, mark_at}
 use Rattle.ranges_tracker.specs.Steady.{RisingGone, GapsWithin}
 use Rattle.ranges_tracker.specs.WellFormed.{NotListed, ListedOnce, OnLive, OnGone, OnRow, TogetherLives, TogetherGone, IsWellFormed}
 use Rattle.flat_cells.specs.Row.{Cell, Live, Gone, Start, End, FlatRow, is_gone, is_start, lives_of, gone_from, before, from_gap, gaps, ends_earlier, sorted_by, grouped, row_of}

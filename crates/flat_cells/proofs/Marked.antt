@@ -2,8 +2,10 @@
 use Rattle.std.proofs.Common.{◌≡◌, ℕ, ◌+◌, ◌<◌, ◌≤◌, Bool, true, false, List, [], ◌++◌, ap, sym, ◌∙◌, arith, filter, Option, Some, ⊎_elim, ◌⊎◌, inl, inr}
 use Rattle.std.specs.Prelude.{not, if◌then◌else◌}
 use Rattle.std.specs.List.{list_any}
-use Rattle.ranges_tracker.specs.Cells.{Mark, Stamp, mark_at, mark_before, chosen, torn, renewed, fresh_mark, count}
-use Rattle.ranges_tracker.specs.Cells.{Chosen}
+use Rattle.ranges_tracker.specs.declared.mark.Mark.{Mark}
+use Rattle.ranges_tracker.specs.declared.stamp.Stamp.{Stamp}
+use Rattle.ranges_tracker.specs.Cells.{mark_at, mark_before, chosen, torn, renewed, fresh_mark, count}
+use Rattle.ranges_tracker.specs.declared.mark.Chosen.{Chosen}
 use Rattle.flat_cells.specs.Row.{Cell, lives_of, ends_earlier, earlier_ends, without_earlier_ends, grouped}
 use Rattle.flat_cells.specs.Step.{remarked_cells, new_cells}
 use Rattle.flat_cells.specs.Form.{is_live_of, is_gone_of, is_of, AreOlder}

@@ -5,8 +5,10 @@ use Rattle.std.specs.List.{list_any}
 use Rattle.std.specs.Str.{bytes_eq}
 use Rattle.std.proofs.lemmas.Bool.{cases_Bool, or_parts, or_cases, or_left, or_right, cond-false}
 use Rattle.std.proofs.lemmas.List.Folds.{list_any-append}
-use Rattle.ranges_tracker.specs.Cells.{Mark, Stamp, same_mark, bears, own, first_of, fresh_mark, chosen, renewed, exchanged}
-use Rattle.ranges_tracker.specs.Cells.{Chosen}
+use Rattle.ranges_tracker.specs.declared.mark.Mark.{Mark}
+use Rattle.ranges_tracker.specs.declared.stamp.Stamp.{Stamp}
+use Rattle.ranges_tracker.specs.Cells.{same_mark, bears, own, first_of, fresh_mark, chosen, renewed, exchanged}
+use Rattle.ranges_tracker.specs.declared.mark.Chosen.{Chosen}
 use Rattle.flat_cells.specs.Row.{Cell, Live, Gone, Start, End, lives_of, ends_earlier, earlier_ends, without_earlier_ends}
 use Rattle.flat_cells.specs.Step.{exchanged_cell, remarked_cells, new_cells}
 use Rattle.flat_cells.specs.Form.{is_live_of, is_gone_of, is_of, AreOlder}

@@ -4,7 +4,9 @@ use Rattle.std.specs.Prelude.{◌||◌, not, if◌then◌else◌}
 use Rattle.std.specs.List.{list_any, flat_map}
 use Rattle.std.proofs.lemmas.Bool.{cases_Bool, or_parts, or_cases, or_left, or_right, cond-true, cond-false}
 use Rattle.std.proofs.lemmas.List.Folds.{list_any-append}
-use Rattle.ranges_tracker.specs.Cells.{Mark, Stamp, same_mark, renewed}
+use Rattle.ranges_tracker.specs.declared.mark.Mark.{Mark}
+use Rattle.ranges_tracker.specs.declared.stamp.Stamp.{Stamp}
+use Rattle.ranges_tracker.specs.Cells.{same_mark, renewed}
 use Rattle.flat_cells.specs.Row.{Cell, Live, Gone, Start, End, is_live, is_gone, is_start, lives_of, ends_earlier, earlier_ends, without_earlier_ends, sorted_by, grouped}
 use Rattle.flat_cells.specs.Step.{exchanged_cell, remarked_cells, new_cells, taken_out}
 use Rattle.flat_cells.specs.Form.{is_gone_of, past_gone, AreNeighbours}

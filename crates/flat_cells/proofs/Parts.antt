@@ -4,7 +4,8 @@ use Rattle.std.specs.Prelude.{◌||◌}
 use Rattle.std.specs.List.{list_any}
 use Rattle.std.proofs.lemmas.Bool.{cases_Bool, or_parts, cond-true, cond-false}
 use Rattle.std.proofs.lemmas.List.{length-take-le}
-use Rattle.ranges_tracker.specs.Cells.{Mark, Live as LiveUnit, Gone as GoneUnit, shifted}
+use Rattle.ranges_tracker.specs.declared.mark.Mark.{Mark}
+use Rattle.ranges_tracker.specs.Cells.{Live as LiveUnit, Gone as GoneUnit, shifted}
 use Rattle.flat_cells.specs.Row.{Cell, Live, Gone, Start, End, lives_of, gone_from, before, from_gap, gaps, behind, until, gap_of}
 use Rattle.ranges_tracker.proofs.Placing.{GapsBelow}
 

@@ -3,7 +3,9 @@ use Rattle.std.proofs.Common.{◌≡◌, ℕ, zero, suc, ◌+◌, Bool, true, fa
 use Rattle.std.specs.Prelude.{◌||◌}
 use Rattle.std.specs.List.{list_any}
 use Rattle.std.proofs.lemmas.List.Elements.{All-nil}
-use Rattle.ranges_tracker.specs.Cells.{Mark, Stamp, Live as LiveUnit, plain_row, mark_at}
+use Rattle.ranges_tracker.specs.declared.mark.Mark.{Mark}
+use Rattle.ranges_tracker.specs.declared.stamp.Stamp.{Stamp}
+use Rattle.ranges_tracker.specs.Cells.{Live as LiveUnit, plain_row, mark_at}
 use Rattle.flat_cells.specs.Row.{Cell, Live, lives_of, gone_from, before, from_gap, gaps, grouped, plain_flat, row_of}
 use Rattle.flat_cells.specs.Form.{IsThread, IsWellFormedFlat, is_edge, is_of, is_gone_of, AreNeighbours, AreOlder}
 use Rattle.flat_cells.proofs.Inserting.{same_rows}

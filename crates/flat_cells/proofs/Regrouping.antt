@@ -5,7 +5,7 @@ use Rattle.std.specs.List.{list_any}
 use Rattle.std.proofs.lemmas.Bool.{cases_Bool, or_parts}
 use Rattle.std.proofs.lemmas.List.Folds.{list_any-append}
 use Rattle.std.proofs.lemmas.List.Elements.{filter-append}
-use Rattle.ranges_tracker.specs.Cells.{Mark}
+use Rattle.ranges_tracker.specs.declared.mark.Mark.{Mark}
 use Rattle.flat_cells.specs.Row.{Cell, Live, Gone, Start, End, is_gone, is_start, is_end, lives_of, before, from_gap, gaps, behind, gap_of, ends_earlier, earlier_ends, without_earlier_ends, sorted_by, grouped}
 use Rattle.flat_cells.specs.Step.{unthreaded, with_start, with_end, with_empty, threaded}
 use Rattle.flat_cells.proofs.Parts.{whole, rest_whole, lives-append, no_lives, ends_before, begins_behind, gap_past}

@@ -1,7 +1,9 @@
 -- worked rows, computed on flat rows
 use Rattle.std.proofs.Common.{◌≡◌, ℕ, true, false, List, [], ◌∷◌, refl, None}
 use Rattle.ot_op.specs.declared.comp.Comp.TheVariants.{Ins, Del, Com}
-use Rattle.ranges_tracker.specs.Cells.{Mark, Stamp, text_of}
+use Rattle.ranges_tracker.specs.declared.mark.Mark.{Mark}
+use Rattle.ranges_tracker.specs.declared.stamp.Stamp.{Stamp}
+use Rattle.ranges_tracker.specs.Cells.{text_of}
 use Rattle.flat_cells.specs.Row.{Live, Gone, Start, End, FlatRow, lives_of, plain_flat}
 use Rattle.flat_cells.specs.Step.{flat_step}
 use Rattle.flat_cells.specs.Shown.{flat_shown}

@@ -3,8 +3,10 @@ use Rattle.std.proofs.Common.{◌≡◌, ℕ, zero, suc, ◌+◌, ◌-◌, ◌<�
 use Rattle.std.specs.Prelude.{◌&&◌, not}
 use Rattle.std.proofs.lemmas.Bool.{cases_Bool, cases_lt, cond-true, cond-false}
 use Rattle.std.proofs.lemmas.List.{length-take-le}
-use Rattle.ranges_tracker.specs.Cells.{Mark, Stamp, Live as LiveUnit, same_mark, bears, mark_at, mark_before, chosen, torn, renewed, exchanged, remarked, new_lives, fresh_mark, raised}
-use Rattle.ranges_tracker.specs.Cells.{Chosen}
+use Rattle.ranges_tracker.specs.declared.mark.Mark.{Mark}
+use Rattle.ranges_tracker.specs.declared.stamp.Stamp.{Stamp}
+use Rattle.ranges_tracker.specs.Cells.{Live as LiveUnit, same_mark, bears, mark_at, mark_before, chosen, torn, renewed, exchanged, remarked, new_lives, fresh_mark, raised}
+use Rattle.ranges_tracker.specs.declared.mark.Chosen.{Chosen}
 use Rattle.ranges_tracker.proofs.Packing.{same_mark_is, same_mark_self}
 use Rattle.flat_cells.proofs.Edges.{raised_low, raised_high}
 use Rattle.flat_cells.proofs.Marks.{chosen_cases}

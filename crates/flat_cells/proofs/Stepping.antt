@@ -7,7 +7,8 @@ use Rattle.ot_units.specs.Text.{put_at, cut_at}
 use Rattle.ot_op.specs.Apply.{applied, stands}
 use Rattle.ot_op.specs.declared.comp.Comp.{Comp}
 use Rattle.ot_op.specs.declared.comp.Comp.TheVariants.{Ins, Del, Com}
-use Rattle.ranges_tracker.specs.Cells.{Stamp, Live as LiveUnit, text_of, step}
+use Rattle.ranges_tracker.specs.declared.stamp.Stamp.{Stamp}
+use Rattle.ranges_tracker.specs.Cells.{Live as LiveUnit, text_of, step}
 use Rattle.flat_cells.specs.Row.{FlatRow, lives_of, row_of}
 use Rattle.flat_cells.specs.Step.{flat_step}
 use Rattle.flat_cells.specs.Form.{IsWellFormedFlat}

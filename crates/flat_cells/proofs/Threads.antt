@@ -5,7 +5,9 @@ use Rattle.std.specs.List.{list_any, flat_map}
 use Rattle.std.proofs.lemmas.Bool.{cases_Bool, or_parts, cond-true, cond-false, eqb-true}
 use Rattle.std.proofs.lemmas.List.Folds.{list_any-append}
 use Rattle.std.proofs.lemmas.List.Elements.{filter-append}
-use Rattle.ranges_tracker.specs.Cells.{Mark, Stamp, renewed}
+use Rattle.ranges_tracker.specs.declared.mark.Mark.{Mark}
+use Rattle.ranges_tracker.specs.declared.stamp.Stamp.{Stamp}
+use Rattle.ranges_tracker.specs.Cells.{renewed}
 use Rattle.flat_cells.specs.Row.{Cell, Live, Gone, Start, End, is_live, is_gone, is_start, is_end, until, ends_earlier, earlier_ends, without_earlier_ends, sorted_by, grouped}
 use Rattle.flat_cells.specs.Step.{exchanged_cell, remarked_cells, taken_out}
 use Rattle.flat_cells.specs.Form.{IsThread}

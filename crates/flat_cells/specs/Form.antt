@@ -1,7 +1,9 @@
 -- Which flat rows are well formed.
 use Rattle.std.specs.Prelude.{◌≡◌, ℕ, ◌≤◌, ◌<◌, ◌⊎◌, Bool, true, false, List, [], ◌∷◌, length, filter, Some, ◌==◌, ◌||◌, if◌then◌else◌, All}
 use Rattle.std.specs.List.{list_any}
-use Rattle.ranges_tracker.specs.Cells.{Mark, Stamp, same_mark, bears, mark_at}
+use Rattle.ranges_tracker.specs.declared.mark.Mark.{Mark}
+use Rattle.ranges_tracker.specs.declared.stamp.Stamp.{Stamp}
+use Rattle.ranges_tracker.specs.Cells.{same_mark, bears, mark_at}
 use Rattle.flat_cells.specs.Row.{Cell, Live, Gone, Start, End, FlatRow, is_start, is_end, lives_of, before, from_gap, gaps, grouped, until}
 
 -- a thread with one start and one end, the start before the end

@@ -1,7 +1,8 @@
 -- Cells of a document in one flat row.
 use Rattle.std.specs.Prelude.{ℕ, zero, suc, ◌+◌, Bool, true, false, not, List, [], ◌∷◌, ◌++◌, length, map, filter, Option, None, ◌==◌, if◌then◌else◌}
 use Rattle.std.specs.List.{list_any}
-use Rattle.ranges_tracker.specs.Cells.{Mark, Live as LiveUnit, Gone as GoneUnit, Thread, Row}
+use Rattle.ranges_tracker.specs.declared.mark.Mark.{Mark}
+use Rattle.ranges_tracker.specs.Cells.{Live as LiveUnit, Gone as GoneUnit, Thread, Row}
 
 -- a unit of the text with its mark or none, a unit that was taken out, the start of a thread, and its end
 pub data Cell : Type 0 where

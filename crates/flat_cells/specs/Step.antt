@@ -3,7 +3,9 @@ use Rattle.std.specs.Prelude.{ℕ, zero, suc, ◌+◌, not, List, [], ◌∷◌,
 use Rattle.std.specs.List.{flat_map}
 use Rattle.ot_op.specs.declared.comp.Comp.{Comp}
 use Rattle.ot_op.specs.declared.comp.Comp.TheVariants.{Ins, Del, Com}
-use Rattle.ranges_tracker.specs.Cells.{Mark, Stamp, same_mark, mark_at, mark_before, chosen, torn, renewed, exchanged, count, fresh_mark, some_unmarked}
+use Rattle.ranges_tracker.specs.declared.mark.Mark.{Mark}
+use Rattle.ranges_tracker.specs.declared.stamp.Stamp.{Stamp}
+use Rattle.ranges_tracker.specs.Cells.{same_mark, mark_at, mark_before, chosen, torn, renewed, exchanged, count, fresh_mark, some_unmarked}
 use Rattle.flat_cells.specs.Row.{Cell, Live, Gone, Start, End, FlatRow, is_live, is_start, is_end, lives_of, before, from_gap, gaps, behind, earlier_ends, without_earlier_ends, grouped}
 
 -- a cell that bears the old mark gets the new one

@@ -29,6 +29,7 @@ pub use comment::Comment;
 pub use kept::KeptDoc;
 pub use laws::{ranges_agree, step_applies_to_text, step_keeps, well_formed_is_steady};
 pub use lines::Lines;
+pub use mark::{Chosen, Mark};
 pub use ranges::Ranges;
 pub use stamp::Stamp;
 pub use tracking::{track, track_op};

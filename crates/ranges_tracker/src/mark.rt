@@ -8,20 +8,27 @@ use crate::{Change, Stamp};
 use ot_units::Name;
 use std::alloc::{AllocError, Global};
 
-// Whose change it is, and when.
+/// Whose change a cell belongs to, and when it was made. Definitions speak of marks; the ranges have
+/// them in their changes.
 #[derive(Drop)]
-pub(crate) struct Mark {
-    pub(crate) version: u64,
-    pub(crate) k: u32,
-    pub(crate) user: Name,
-    pub(crate) ms: u64,
+pub struct Mark {
+    /// The version at which the update was applied.
+    pub version: u64,
+    /// Which of the update's fresh marks it is, from 0.
+    pub k: u32,
+    /// Who made the change.
+    pub user: Name,
+    /// When, in the script's milliseconds.
+    pub ms: u64,
 }
 
-// A mark for new cells, and the fresh marks that it takes.
+/// The mark of new cells, if they get one, as definitions speak of it.
 #[derive(Drop)]
-pub(crate) struct Chosen {
-    pub(crate) mark: Option<Mark>,
-    pub(crate) fresh: u32,
+pub struct Chosen {
+    /// The mark.
+    pub mark: Option<Mark>,
+    /// How many fresh marks that takes, 0 or 1.
+    pub fresh: u32,
 }
 
 // The torn mark and the fresh id that takes its place in what follows.
