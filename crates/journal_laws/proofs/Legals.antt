@@ -30,7 +30,7 @@ room_legal = (
     (
       record { made = omega arith; unnumbered = refl; source_low = omega arith; at_once = refl; within = record { few = omega arith; short = omega arith; in_reach = near } },
       (
-        record { joined = refl; applies = refl; few = omega arith; short = omega arith },
+        record { joined = refl; solid = refl; applies = refl; few = omega arith; short = omega arith },
         (
           refl,
           (
@@ -86,7 +86,7 @@ resend_legal = (
   (
     record { made = omega arith; cached_is = refl; v_is = refl; source_is = refl },
     (
-      record { joined = refl; applies = refl; few = omega arith; short = omega arith },
+      record { joined = refl; solid = refl; applies = refl; few = omega arith; short = omega arith },
       (
         refl,
         (
@@ -144,7 +144,7 @@ leave_legal = (
   (
     record { made = omega arith; cached_is = refl; v_is = refl; source_is = refl },
     (
-      record { joined = refl; applies = refl; few = omega arith; short = omega arith },
+      record { joined = refl; solid = refl; applies = refl; few = omega arith; short = omega arith },
       (
         refl,
         (

@@ -3,7 +3,7 @@ use Rattle.std.specs.Prelude.{◌≡◌, ◌≢◌, ◌⊎◌, ℕ, ◌+◌, ◌
 use Rattle.std.specs.List.{list_any}
 use Rattle.std.specs.Str.{bytes_eq}
 use Rattle.ot_op.specs.declared.comp.Comp.{Comp}
-use Rattle.ot_op.specs.Operation.{place, units_of}
+use Rattle.ot_op.specs.Operation.{is_void, place, units_of}
 use Rattle.ot_op.specs.Apply.{applied}
 use Rattle.ot_op.specs.Compose.{appended}
 use Rattle.expiring_lock.specs.declared.lock.TheConstants.{LOCK_LIFE}
@@ -75,9 +75,10 @@ abbrev pub IsJoin : List Entry → ℕ → ℕ → List ℕ → Bool → Option 
 IsJoin before c doc user track None source v = IsJoining before doc source v
 IsJoin before c doc user track (Some since) source v = IsReturning before c doc user track since source v
 
--- a client edits its text
+-- a client edits its text, by no empty insert or delete
 pub record IsEdit (before : List Entry) (c : ℕ) (comp : Comp) : Type 0 where
   pub joined : (client c before).state ≡ Joined
+  pub solid : is_void comp ≡ false
   pub applies : is_some (applied (client c before).text comp) ≡ true
   pub few : length (appended (client c before).pending comp) ≤ most_components
   pub short : units (appended (client c before).pending comp) ≤ most_units

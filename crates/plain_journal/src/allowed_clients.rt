@@ -156,7 +156,7 @@ pub(crate) fn is_edit(
     let now = client_of(alloc, before, client)?;
     let text = applied(alloc, &now.text, comp)?;
     let pending = appended(alloc, &now.pending, comp)?;
-    Ok(is_joined(&now) && text.is_some() && is_within_limits(&pending))
+    Ok(is_joined(&now) && !comp.is_void() && text.is_some() && is_within_limits(&pending))
 }
 
 // Whether an update is what a client sends of an operation, under a number.
