@@ -1,6 +1,6 @@
 //! The lock, with its calls. None takes memory.
 
-ghost use Rattle.std.specs.Prelude.{◌≡◌, ◌≢◌, ◌+◌, ◌^◌, ◌<◌, ◌≤◌, ◌↔◌, true, false, IsOk, IsErr, IsErrOf, IfOk, IfErr, OnOk, OnErr};
+ghost use Rattle.std.specs.Prelude.{◌≡◌, ◌≢◌, ◌+◌, ◌^◌, ◌<◌, ◌≤◌, ◌↔◌, true, false, IsOk, IsErr, IsErrOf, IsSome, IfSome, IfOk, IfErr, OnOk, OnErr};
 ghost use Rattle.expiring_lock.specs.Locks.{IsCurrent, IsEnded, IsUnexpired};
 ghost use Rattle.expiring_lock.specs.declared.lock.TheConstants.{LOCK_LIFE};
 ghost use Rattle.expiring_lock.specs.declared.refusal.Stale.TheVariants.{Other, Ended};
@@ -49,6 +49,22 @@ impl Lock {
         }
     }
 
+    /// What keeps others out at `now`: the token that is held and hasn't expired, or `None`, where
+    /// [`Lock::take`] would give the lock.
+    pub fn busy(&self, now: u64) -> Option<Busy>
+        ensures busy { IsSome result ↔ IsUnexpired self.now now }
+        ensures told { IfSome result
+            (λ busy. busy ≡ record { token = self.now.last; until = self.now.until }) }
+    {
+        if self.held && now < self.until {
+            return Some(Busy {
+                token: self.last,
+                until: self.until,
+            });
+        }
+        None
+    }
+
     /// Gives the lock to `seat` under the token `next`, and answers when it expires: [`LOCK_LIFE`]
     /// after `now`. A lock that was let go or has expired may be taken. [`Busy`] leaves it as it
     /// was.
@@ -63,11 +79,8 @@ impl Lock {
             (λ busy. busy ≡ record { token = self.old.last; until = self.old.until }) }
         ensures kept { OnErr result (self.new ≡ self.old) }
     {
-        if self.held && now < self.until {
-            return Err(Busy {
-                token: self.last,
-                until: self.until,
-            });
+        if let Some(busy) = self.busy(now) {
+            return Err(busy);
         }
         let until = now + LOCK_LIFE;
         *self = Lock {
