@@ -1,0 +1,5 @@
+pub mod Turns
+pub mod Locking
+pub mod Draining
+pub mod Flushing
+pub mod Clients
