@@ -14,3 +14,6 @@ pub use held::Held;
 pub use journaled::Journaled;
 pub use seat::Seat;
 pub use view::View;
+
+#[cfg(test)]
+mod tests;
