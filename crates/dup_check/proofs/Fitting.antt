@@ -10,24 +10,14 @@ use Rattle.ot_op.specs.declared.comp.Comp.{Comp}
 use Rattle.ot_op.specs.declared.comp.Comp.TheVariants.{Ins, Del, Com}
 use Rattle.ot_op.specs.Operation.{IsOp, is_void, units_of}
 use Rattle.ot_op.specs.Apply.{applied, applied_all, IsFailing}
-use Rattle.ot_op.proofs.Applying.{applied_all-append}
+use Rattle.ot_op.proofs.Applying.{applied_all-append, First, first_of_all}
 use Rattle.ot_op.proofs.Pieces.{ins_cut, del_cut, com_cut}
 use Rattle.ot_transform.specs.Size.{edit_units, edit_units_in, comment_count, comments_in}
-use Rattle.ot_transform.proofs.Converging.{First, first_of_list}
 use Rattle.ranges_tracker.specs.Steady.{units_all}
 use Rattle.ranges_tracker.specs.Trackable.{IsFit}
 use Rattle.journal_rules.specs.Deciding.{longest}
 use Rattle.dup_check.specs.declared.snapshot.Snapshot.{Snapshot}
 use Rattle.dup_check.specs.Snapshot.{stamp_of, Agrees, IsSmall}
-
--- where the first component of the rest doesn't apply, the whole doesn't
-pub failing_none : (text left : List ℕ) (op : List Comp) (k : ℕ) → IsFailing text op left k → applied_all text op ≡ None
-failing_none text left op k fails =
-    let cut : op ≡ take k op ++ (take 1 (drop k op) ++ drop 1 (drop k op)) = sym (take-append-drop k op) ∙ ap (λ l. take k op ++ l) (sym (take-append-drop 1 (drop k op))) in
-    let rest : applied_all left (take 1 (drop k op) ++ drop 1 (drop k op)) ≡ None =
-    applied_all-append left (take 1 (drop k op)) (drop 1 (drop k op)) ∙ ap (λ o. option_and_then (λ next. applied_all next (drop 1 (drop k op))) o) fails.2 in
-    ap (applied_all text) cut ∙ applied_all-append text (take k op) (take 1 (drop k op) ++ drop 1 (drop k op))
-    ∙ ap (λ o. option_and_then (λ next. applied_all next (take 1 (drop k op) ++ drop 1 (drop k op))) o) fails.1 ∙ rest
 
 -- ---- how large what applies is
 -- a component that applies makes the text longer by its units at most, and has no more units than it or the text
@@ -56,7 +46,7 @@ grows text (Com at part thread) mid e =
 units_bounded : (m : ℕ) (text : List ℕ) (op : List Comp) (next : List ℕ) → length text + edit_units_in op ≤ m → applied_all text op ≡ Some next → units_all op ≤ edit_units_in op + comments_in op * m
 units_bounded m text [] next room e = omega arith
 units_bounded m text (c ∷ cs) next room e =
-    let f : First text c cs next = first_of_list text c cs next e in
+    let f : First text c cs next = first_of_all text c cs next e in
     let g : Grows text c f.mid = grows text c f.mid f.here in
     let edits : edit_units_in (c ∷ cs) ≡ edit_units c + edit_units_in cs = sum_by-cons edit_units c cs in
     let comments : comments_in (c ∷ cs) ≡ comment_count c + comments_in cs = sum_by-cons comment_count c cs in

@@ -18,6 +18,7 @@ use Rattle.dup_check.specs.declared.past.Past.{Past}
 use Rattle.dup_check.specs.declared.snapshot.Snapshot.{Snapshot}
 use Rattle.dup_check.specs.declared.snapshot.Decision.{Decision}
 use Rattle.dup_check.specs.declared.snapshot.Decision.TheVariants.{Apply, Dup, Refuse}
+use Rattle.ot_op.specs.declared.limits.TheConstants.{MAX_COMPONENTS, MAX_OPERATION_UNITS}
 
 -- ---- what is looked at
 abbrev pub operations : List Past → List (List Comp)
@@ -44,8 +45,8 @@ pub record InReach (look : Snapshot) : Type 0 where
 
 -- the most units of an operation's inserts and deletes, and the most comments
 pub record IsSmall (op : List Comp) : Type 0 where
-  pub units : edit_units_in op ≤ 65536
-  pub comments : comments_in op ≤ 1000
+  pub units : edit_units_in op ≤ MAX_OPERATION_UNITS
+  pub comments : comments_in op ≤ MAX_COMPONENTS
 
 -- what is there of the past, and whether there is room to move the update's operation past it
 pub record IsReady (look : Snapshot) : Type 0 where

@@ -2,6 +2,8 @@
 use Rattle.std.specs.Prelude.{◌≡◌, ℕ, ◌+◌, ◌-◌, ◌≤◌, Bool, List, [], ◌∷◌, ◌++◌, length, drop, min, nat_le, ◌&&◌, Option, Some, None, Vec, if◌then◌else◌}
 use Rattle.std.specs.Option.{option_map}
 use Rattle.std.specs.declared.alloc.Global.{Global}
+use Rattle.journal_entries.specs.declared.limits.TheConstants.{MAX_AGE}
+pub use Rattle.journal_rules.specs.Fence.{last_of}
 use Rattle.dup_check.specs.declared.past.Past.{Past}
 
 -- a document's first version, its present one, and the operations that were applied last
@@ -10,13 +12,9 @@ pub record Recent : Type 0 where
   pub version : ℕ
   pub last : List Past
 
--- the last n of a list, or all where it is shorter
-abbrev pub last_of : {A : Type 0} → ℕ → List A → List A
-last_of n xs = drop (length xs - n) xs
-
 -- how many are kept
 abbrev pub most : ℕ
-most = 100
+most = MAX_AGE
 
 abbrev pub recent : List Past → List Past
 recent all = last_of most all

@@ -8,16 +8,12 @@ ghost use Rattle.journal_rules.specs.Deciding.{longest, fitted, decided_of};
 ghost use Rattle.dup_check.specs.Snapshot.{stamp_of, numbered, outcome_of, IsSmall, Agrees, InReach, IsReady, Applies, Keeps};
 
 use crate::scanned::{Scanned, scan};
-use crate::window::WINDOW;
 use crate::{Decision, Snapshot};
-use journal_entries::Cause;
-use ot_op::{ApplyFault, Op, apply};
+use journal_entries::{Cause, MAX_AGE};
+use ot_op::{ApplyFault, MAX_TEXT_UNITS, Op, apply};
 use ot_text::DocText;
 use ranges_tracker::{Ranges, Stamp, track_op};
 use std::alloc::{AllocError, Global};
-
-/// The greatest length of a document's text, in UTF-16 code units. The number is this project's own.
-const LONGEST: usize = 2_097_152;
 
 /// The most components of an operation whose inserts and deletes have at most 65,536 units and which
 /// has at most 1,000 comments.
@@ -55,7 +51,7 @@ pub fn decide(alloc: Global, look: &Snapshot) -> Result<Decision, AllocError>
     if have < update.v {
         return Ok(Decision::Refuse(Cause::Future { have }));
     }
-    if update.v < look.base || have - update.v > WINDOW {
+    if update.v < look.base || have - update.v > MAX_AGE {
         return Ok(Decision::Refuse(Cause::TooOld { have }));
     }
     match scan(alloc, update, look.past.as_slice())? {
@@ -77,7 +73,7 @@ fn fit(alloc: Global, look: &Snapshot, op: Op) -> Result<Decision, AllocError>
         return Ok(Decision::Refuse(Cause::Mismatch));
     };
     let len = text.len();
-    if len > LONGEST {
+    if len > MAX_TEXT_UNITS {
         return Ok(Decision::Refuse(Cause::TooLong { len: len as u64 }));
     }
     let ranges = track_all(alloc, look, &op)?;

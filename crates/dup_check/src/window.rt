@@ -5,12 +5,9 @@ ghost use Rattle.dup_check.specs.Window.{empty_at, pushed, since_in, past_items}
 
 use crate::Past;
 use circular_buffer::HeapCircularBuffer;
+use journal_entries::MAX_AGE;
 use std::alloc::{AllocError, Global};
 use std::marker::Model;
-
-/// The most operations that a window keeps, and so the greatest age of an update in versions. The
-/// number is this project's own.
-pub(crate) const WINDOW: u64 = 100;
 
 /// The operations that were applied to a document last, at most 100 of them, with the document's first
 /// version and its present one. Versions count the operations that were applied.
@@ -36,7 +33,7 @@ impl Window {
     pub fn new(alloc: Global, base: u64) -> Result<Window, AllocError>
         ensures { IfOk result (λ made. made ≡ empty_at base) }
     {
-        let past = HeapCircularBuffer::with_capacity(alloc, WINDOW as usize)?;
+        let past = HeapCircularBuffer::with_capacity(alloc, MAX_AGE as usize)?;
         Ok(Window {
             base,
             version: base,
@@ -74,7 +71,7 @@ impl Window {
     pub fn since(&self, alloc: Global, v: u64) -> Result<Option<Vec<Past>>, AllocError>
         ensures { IfOk result (λ found. past_items found ≡ since_in self.now v) }
     {
-        if v < self.base || self.version < v || self.version - v > WINDOW {
+        if v < self.base || self.version < v || self.version - v > MAX_AGE {
             return Ok(None);
         }
         let first = self.past.len() - (self.version - v) as usize;

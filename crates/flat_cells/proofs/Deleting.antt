@@ -13,8 +13,9 @@ use Rattle.flat_cells.specs.Step.{taken_out, flat_deleted}
 use Rattle.flat_cells.specs.Form.{IsWellFormedFlat}
 use Rattle.ranges_tracker.proofs.Placing.{GapsBelow}
 use Rattle.flat_cells.proofs.Parts.{whole, rest_whole, lives-append, lives_before, lives_from, lives_gaps, lives_behind, ends_before, begins_behind, gone-append, gone_below, gone_above, gone_behind, GapsFrom, shift_below, shift_by, no_lives, same_gone, no_gone}
-use Rattle.flat_cells.proofs.Edges.{any_on, filter_in, filter_out, any_grouped, grouped_lives, squash_low, squash_in, squash_far, edge_squashed}
+use Rattle.flat_cells.proofs.Edges.{any_on, filter_in, filter_out, any_grouped, grouped_lives, squash_low, squash_far, edge_squashed}
 use Rattle.flat_cells.proofs.Inserting.{IsEdgeTest, start_test, end_test, front_length, same_rows, threads_alike}
+use Rattle.ranges_tracker.proofs.Commenting.{squash_mid}
 
 -- what is left of some cells
 abbrev pub left_of : Bool → Mark → List Cell → List Cell
@@ -179,7 +180,7 @@ gone_parts false at n new out behind low count below far =
     sym (map-append (shifted f) low (gone_from at out ++ gone_from (at + n) behind)
     ∙ ap₂ (λ (x y : List GoneUnit). x ++ y) (shift_below f at low below (squash_low at n))
     (map-append (shifted f) (gone_from at out) (gone_from (at + n) behind)
-    ∙ ap₂ (λ (x y : List GoneUnit). x ++ y) (sym (still_gone f at at out (λ i le. squash_in at n (at + i) (omega arith) (omega (arith, le, count))))) (shift_by f (at + n) at behind (squash_far at n))))
+    ∙ ap₂ (λ (x y : List GoneUnit). x ++ y) (sym (still_gone f at at out (λ i le. squash_mid at n (at + i) (omega arith) (omega (arith, le, count))))) (shift_by f (at + n) at behind (squash_far at n))))
 
 pub out_lives : (cells : List Cell) (at n : ℕ) → lives_of (gaps n (from_gap at cells)) ≡ take n (drop at (lives_of cells))
 out_lives cells at n = lives_gaps n (from_gap at cells) ∙ ap (take n) (lives_from at cells)

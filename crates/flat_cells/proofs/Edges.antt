@@ -7,6 +7,7 @@ use Rattle.std.proofs.lemmas.List.Folds.{list_any-append}
 use Rattle.ranges_tracker.specs.Cells.{raised, squashed}
 use Rattle.flat_cells.specs.Row.{Cell, Live, Gone, Start, End, is_start, is_end, is_gone, lives_of, gap_of, ends_earlier, earlier_ends, without_earlier_ends, sorted_by, grouped}
 use Rattle.flat_cells.proofs.Parts.{EndsLive, BeginsLive, NoLive, gap_in, gap_past, gap_below, gap_behind, gap_none, gap_within, no_lives, lives-append}
+use Rattle.ranges_tracker.proofs.Commenting.{squash_mid}
 
 -- what passes a test in a filtered list
 pub any_on : {X : Type 0} (test : X → Bool) (x : X) (xs : List X) → test x ≡ false → list_any test (x ∷ xs) ≡ list_any test xs
@@ -207,13 +208,10 @@ end_raised t front gap new late behind p n h k e none count fresh same order som
 pub squash_low : (p n g : ℕ) → g < p → squashed p n g ≡ g
 squash_low p n g lt = cond-true (nat_lt g p) g (if nat_le g (p + n) then p else g - n) (lt-ltb g p lt)
 
-pub squash_in : (p n g : ℕ) → p ≤ g → g ≤ p + n → squashed p n g ≡ p
-squash_in p n g lo hi = cond-false (nat_lt g p) g (if nat_le g (p + n) then p else g - n) (le-ltb g p lo) ∙ cond-true (nat_le g (p + n)) p (g - n) (le-leb g (p + n) hi)
-
 pub squash_far : (p n i : ℕ) → squashed p n (p + n + i) ≡ p + i
 squash_far p n i = ⊎_elim {C = squashed p n (p + n + i) ≡ p + i}
     (λ lt. cond-false (nat_lt (p + n + i) p) (p + n + i) (if nat_le (p + n + i) (p + n) then p else p + n + i - n) (le-ltb (p + n + i) p (omega arith)) ∙ cond-false (nat_le (p + n + i) (p + n)) p (p + n + i - n) (lt-leb (p + n + i) (p + n) lt) ∙ omega arith)
-    (λ le. squash_in p n (p + n + i) (omega arith) le ∙ omega (arith, le))
+    (λ le. squash_mid p n (p + n + i) (omega arith) le ∙ omega (arith, le))
     (cases_lt (p + n) (p + n + i))
 
 pub edge_squashed : (test : Cell → Bool) (front out left behind : List Cell) (p n : ℕ) → EndsLive front → length (lives_of front) ≡ p → length (lives_of out) ≡ n → lives_of left ≡ [] → list_any test left ≡ list_any test out →
@@ -223,7 +221,7 @@ edge_squashed test front out left behind p n h e count none same = ⊎_elim {C =
     gap_in test front (left ++ behind) x ∙ sym old ∙ sym (squash_low p n (gap_of test (front ++ (out ++ behind))) (omega (arith, old, gap_below test front h x, e))))
     (λ x. ⊎_elim {C = gap_of test (front ++ (left ++ behind)) ≡ squashed p n (gap_of test (front ++ (out ++ behind)))}
     (λ y. let old : gap_of test (front ++ (out ++ behind)) ≡ p + gap_of test out = omega (arith, gap_past test front (out ++ behind) x, gap_in test out behind y, e) in
-    omega (arith, gap_past test front (left ++ behind) x, gap_in test left behind (same ∙ y), gap_none test left none, e, old, squash_in p n (gap_of test (front ++ (out ++ behind))) (omega (arith, old)) (omega (arith, old, gap_within test out, count))))
+    omega (arith, gap_past test front (left ++ behind) x, gap_in test left behind (same ∙ y), gap_none test left none, e, old, squash_mid p n (gap_of test (front ++ (out ++ behind))) (omega (arith, old)) (omega (arith, old, gap_within test out, count))))
     (λ y. let old : gap_of test (front ++ (out ++ behind)) ≡ p + n + gap_of test behind = omega (arith, gap_past test front (out ++ behind) x, gap_past test out behind y, e, count) in
     omega (arith, gap_past test front (left ++ behind) x, gap_past test left behind (same ∙ y), ap length none, e, ap (squashed p n) old, squash_far p n (gap_of test behind)))
     (cases_Bool (list_any test out)))

@@ -8,12 +8,11 @@ use Rattle.flat_cells.specs.Row.{Cell, FlatRow, lives_of, row_of}
 use Rattle.flat_cells.specs.Step.{flat_step}
 use Rattle.flat_cells.specs.Form.{IsWellFormedFlat, AreOlder}
 use Rattle.flat_cells.specs.Laws.{OpAgrees}
-use Rattle.ranges_tracker.proofs.Folding.{text_step, First, first_of_all}
+use Rattle.ranges_tracker.proofs.Folding.{text_step}
 use Rattle.flat_cells.proofs.Stepping.{step_agrees}
 use Rattle.flat_cells.proofs.Keeping.{Kept, keep_step}
-
-some_same : (xs ys : List ℕ) → Some xs ≡ Some ys → xs ≡ ys
-some_same xs ys e = cc
+use Rattle.std.proofs.lemmas.Option.{same_Some}
+use Rattle.ot_op.proofs.Applying.{First, first_of_all}
 
 -- the live cells after a step are the text after the component
 pub flat_text : (row : FlatRow) (comp : Comp) (stamp : Stamp) (k : ℕ) (next : List ℕ) → IsWellFormedFlat row → applied (text_of (lives_of row.cells)) comp ≡ Some next → text_of (lives_of (flat_step row comp stamp k).row.cells) ≡ next
@@ -29,7 +28,7 @@ pub later_new : (cells : List Cell) (stamp later : Stamp) (k : ℕ) → stamp.ve
 later_new cells stamp later k lt older m e = inl (⊎_elim {C = m.version < later.version} (λ a. omega (arith, a, lt)) (λ a. omega (arith, a.0, lt)) (older m e))
 
 pub flat_op : (op : List Comp) (row : FlatRow) (stamp : Stamp) (k : ℕ) (next : List ℕ) → IsWellFormedFlat row → AreOlder row.cells stamp k → applied_all (text_of (lives_of row.cells)) op ≡ Some next → OpAgrees row op stamp k next
-flat_op [] row stamp k next h older e = record { form = h; older = older; text = some_same (text_of (lives_of row.cells)) next e; coordinates = refl; marks = refl }
+flat_op [] row stamp k next h older e = record { form = h; older = older; text = same_Some (text_of (lives_of row.cells)) next e; coordinates = refl; marks = refl }
 flat_op (c ∷ cs) row stamp k next h older e =
     let f : First (text_of (lives_of row.cells)) c cs next = first_of_all (text_of (lives_of row.cells)) c cs next e in
     let after = flat_step row c stamp k in

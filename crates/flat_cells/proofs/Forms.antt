@@ -18,6 +18,7 @@ use Rattle.flat_cells.proofs.Inserting.{in_order}
 use Rattle.flat_cells.proofs.Commenting.{swap_eqb}
 use Rattle.flat_cells.proofs.Marks.{clash, live_is_of, gone_is_of}
 use Rattle.flat_cells.proofs.Runs.{InRuns}
+use Rattle.ranges_tracker.proofs.Together.{bears_is}
 
 -- threads
 not_listed : (cells : List Cell) (t : ℕ) (ts : List ℕ) → names t ts ≡ false → NotListed t (map (thread_of cells) ts)
@@ -74,17 +75,13 @@ at_some m (l ∷ ls) (inr h) = let r : IsAt m ls = at_some m ls h in record { pl
 runs_tail : (l : LiveUnit) (ls : List LiveUnit) → InRuns (l ∷ ls) → InRuns ls
 runs_tail l ls h m i j k a b e f = h m (suc i) (suc j) (suc k) (omega (arith, a)) (omega (arith, b)) e f
 
-bears_some : (o : Option Mark) (m : Mark) → bears o m ≡ true → o ≡ Some m
-bears_some None m e = cc
-bears_some (Some n) m e = ap Some (same_mark_is n m e)
-
 together_lives : (ls : List LiveUnit) → InRuns ls → TogetherLives ls
 together_lives [] h = tt
 together_lives (l ∷ ls) h = (next, together_lives ls (runs_tail l ls h))
   where
     next : (m : Mark) → l.mark ≡ Some m → (mark_at ls 0 ≡ Some m) ⊎ (OnLive m ls → ⊥)
     next m e = ⊎_elim {C = (mark_at ls 0 ≡ Some m) ⊎ (OnLive m ls → ⊥)}
-        (λ t. inl (bears_some (mark_at ls 0) m t))
+        (λ t. inl (bears_is (mark_at ls 0) m t))
         (λ f. inr (λ o. let r : IsAt m ls = at_some m ls o in
         clash (bears (mark_at ls 0) m) (ap (λ (x : Option Mark). bears x m) (h m 0 1 (suc r.place) (omega arith) (omega arith) e r.bears_it) ∙ same_mark_self m) f))
         (cases_Bool (bears (mark_at ls 0) m))

@@ -2,7 +2,7 @@
 use Rattle.std.proofs.Common.{◌≡◌, ℕ, zero, suc, ◌+◌, ◌-◌, ◌<◌, Bool, true, false, List, [], ◌∷◌, ◌++◌, refl, ap, ap₂, sym, ◌∙◌, length, arith, append_assoc, append-nil, filter, ⊎_elim}
 use Rattle.std.specs.Prelude.{◌||◌, not}
 use Rattle.std.specs.List.{list_any}
-use Rattle.std.proofs.lemmas.Bool.{cases_Bool, cases_lt, or_parts}
+use Rattle.std.proofs.lemmas.Bool.{cases_Bool, cases_lt, or_parts, not-true}
 use Rattle.std.proofs.lemmas.List.Folds.{list_any-append}
 use Rattle.std.proofs.lemmas.List.Elements.{filter-append, filter_agree}
 use Rattle.flat_cells.specs.Row.{Cell, Live, Gone, Start, End, is_gone, is_start, lives_of, before, from_gap, gaps, ends_earlier, earlier_ends, without_earlier_ends, sorted_by, grouped}
@@ -174,13 +174,9 @@ not_true : (b : Bool) → b ≡ true → not b ≡ false
 not_true true e = refl
 not_true false e = cc
 
-of_not : (b : Bool) → not b ≡ true → b ≡ false
-of_not true e = cc
-of_not false e = refl
-
 -- no early end among late cells, nor a late cell among early ends
 pub no_early : (front cells : List Cell) → list_any (ends_earlier front) (without_earlier_ends front cells) ≡ false
-no_early front cells = none_in (ends_earlier front) (λ (c : Cell). not (ends_earlier front c)) (λ c e. of_not (ends_earlier front c) e) cells
+no_early front cells = none_in (ends_earlier front) (λ (c : Cell). not (ends_earlier front c)) (λ c e. not-true (ends_earlier front c) e) cells
 
 pub no_late : (front cells : List Cell) → list_any (λ (c : Cell). not (ends_earlier front c)) (earlier_ends front cells) ≡ false
 no_late front cells = none_in (λ (c : Cell). not (ends_earlier front c)) (ends_earlier front) (λ c e. not_true (ends_earlier front c) e) cells
@@ -204,7 +200,7 @@ pub sorted_twice : (f : Cell → Bool) (xs : List Cell) → sorted_by f (sorted_
 sorted_twice f xs =
     let g = λ (c : Cell). not (f c) in
     ap₂ (λ (x y : List Cell). x ++ y)
-    (filter-append f (filter f xs) (filter g xs) ∙ ap₂ (λ (x y : List Cell). x ++ y) (filter_all f (filter f xs) (none_in g f (λ c e. not_true (f c) e) xs)) (filter_nothing f (filter g xs) (none_in f g (λ c e. of_not (f c) e) xs)) ∙ append-nil (filter f xs))
+    (filter-append f (filter f xs) (filter g xs) ∙ ap₂ (λ (x y : List Cell). x ++ y) (filter_all f (filter f xs) (none_in g f (λ c e. not_true (f c) e) xs)) (filter_nothing f (filter g xs) (none_in f g (λ c e. not-true (f c) e) xs)) ∙ append-nil (filter f xs))
     (filter-append g (filter f xs) (filter g xs) ∙ ap₂ (λ (x y : List Cell). x ++ y) (filter_nothing g (filter f xs) (none_in g f (λ c e. not_true (f c) e) xs)) (filter_all g (filter g xs) (none_in (λ (c : Cell). not (g c)) g (λ c e. not_true (g c) e) xs)))
 
 pub grouped_twice : (front cells : List Cell) → grouped front (grouped front cells) ≡ grouped front cells

@@ -15,13 +15,11 @@ use Rattle.flat_cells.proofs.Inserting.{live_bears, before_bears}
 use Rattle.flat_cells.proofs.Deleting.{left_of, left_lives}
 use Rattle.flat_cells.proofs.Marks.{clash, any_cases, any_left, any_right, any_more, live_is_of, gone_is_of, Marks, no_gone_new, no_live_in, new_bears, gone_remarked, IsRenewed, live_remarked, IsFresh, chosen_cases}
 use Rattle.flat_cells.proofs.Neighbours.{left_gone_of}
+use Rattle.std.proofs.lemmas.Option.{same_Some}
 
 -- an older mark isn't fresh
 older_not : (cells : List Cell) (stamp : Stamp) (k : ℕ) → AreOlder cells stamp k → (m : Mark) → m.version ≡ stamp.version → k ≤ m.k → list_any (is_of m) cells ≡ true → ⊥
 older_not cells stamp k older m v le e = ⊎_elim {C = ⊥} (λ lt. omega (arith, lt, v)) (λ lt. omega (arith, lt.1, le)) (older m e)
-
-some_same : (m n : Mark) → Some m ≡ Some n → m ≡ n
-some_same m n e = cc
 
 -- the new marks of an insert
 abbrev pub IsPut : Chosen → Option Mark → Stamp → ℕ → Mark → Type 0
@@ -37,7 +35,7 @@ put_one : (by : Chosen) (old : Option Mark) (stamp : Stamp) (k : ℕ) (m n : Mar
 put_one by old stamp k m n (inl f) (inl g) e = f.1 ∙ sym g.1
 put_one by old stamp k m n (inl f) (inr r) e = absurd (omega (arith, ap (λ (x : Mark). x.k) f.1, ap (λ (x : Mark). x.k) r.mark_is, f.0, e))
 put_one by old stamp k m n (inr r) (inl f) e = absurd (omega (arith, ap (λ (x : Mark). x.k) f.1, ap (λ (x : Mark). x.k) r.mark_is, f.0, e))
-put_one by old stamp k m n (inr r) (inr s) e = r.mark_is ∙ ap (λ (x : Mark). renewed x stamp (k + by.fresh)) (some_same r.old s.old (sym r.torn_is ∙ s.torn_is)) ∙ sym s.mark_is
+put_one by old stamp k m n (inr r) (inr s) e = r.mark_is ∙ ap (λ (x : Mark). renewed x stamp (k + by.fresh)) (same_Some r.old s.old (sym r.torn_is ∙ s.torn_is)) ∙ sym s.mark_is
 
 -- what stands among the late cells of a gap and behind it stands in the row
 late_in : (test f : Cell → Bool) (front gap rest : List Cell) → list_any test (filter f gap ++ rest) ≡ true → list_any test (front ++ (gap ++ rest)) ≡ true

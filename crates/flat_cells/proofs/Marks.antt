@@ -15,6 +15,7 @@ use Rattle.flat_cells.specs.Form.{is_live_of, is_gone_of, is_of, AreOlder}
 use Rattle.ranges_tracker.proofs.Packing.{same_mark_is}
 use Rattle.flat_cells.proofs.Edges.{any_filter}
 use Rattle.flat_cells.proofs.Inserting.{any_less}
+use Rattle.ranges_tracker.proofs.Together.{own_is}
 
 pub clash : {P : Type 0} (b : Bool) → b ≡ true → b ≡ false → P
 clash true e f = cc
@@ -185,15 +186,6 @@ pub record IsRenewed (o : Option Mark) (stamp : Stamp) (j : ℕ) (m : Mark) : Ty
 pub live_remarked : (m : Mark) (o : Option Mark) (stamp : Stamp) (j : ℕ) (cells : List Cell) → list_any (is_live_of m) (remarked_cells o stamp j cells) ≡ true → (list_any (is_live_of m) cells ≡ true) ⊎ IsRenewed o stamp j m
 live_remarked m None stamp j cells e = inl e
 live_remarked m (Some old) stamp j cells e = ⊎_elim {C = (list_any (is_live_of m) cells ≡ true) ⊎ IsRenewed (Some old) stamp j m} (λ x. inl x) (λ x. inr (record { old = old; torn_is = refl; mark_is = x })) (live_exchanged m old (renewed old stamp j) cells e)
-
--- the mark of new cells is that of a neighbour, or fresh
-own_is : (user : List ℕ) (o : Option Mark) (m : Mark) → own user o ≡ Some m → o ≡ Some m
-own_is user None m e = cc
-own_is user (Some n) m e = go (bytes_eq user n.user) e
-  where
-    go : (b : Bool) → (if b then Some n else None) ≡ Some m → Some n ≡ Some m
-    go true e = e
-    go false e = cc
 
 abbrev pub IsFresh : Chosen → Stamp → ℕ → Mark → Type 0
 IsFresh by stamp k m = (by.fresh ≡ 1) × (m ≡ fresh_mark stamp k)

@@ -10,6 +10,9 @@ use Rattle.ranges_tracker.specs.declared.mark.Chosen.{Chosen}
 use Rattle.ranges_tracker.proofs.Packing.{same_mark_is, same_mark_self}
 use Rattle.flat_cells.proofs.Edges.{raised_low, raised_high}
 use Rattle.flat_cells.proofs.Marks.{chosen_cases}
+use Rattle.ranges_tracker.proofs.Together.{bears_is}
+use Rattle.std.proofs.lemmas.Option.{same_Some}
+use Rattle.ranges_tracker.proofs.Keeping.{new_length}
 
 -- between two live cells of one mark each bears it
 abbrev pub InRuns : List LiveUnit → Type 0
@@ -80,10 +83,6 @@ at_new [] o i lt = absurd (omega (arith, lt))
 at_new (u ∷ us) o zero lt = refl
 at_new (u ∷ us) o (suc i) lt = at_new us o i (omega (arith, lt))
 
-new_count : (us : List ℕ) (o : Option Mark) → length (new_lives us o) ≡ length us
-new_count [] o = refl
-new_count (u ∷ us) o = ap suc (new_count us o)
-
 abbrev pub put_lives : List LiveUnit → ℕ → List ℕ → Option Mark → Option Mark → Stamp → ℕ → List LiveUnit
 put_lives ls at part by old stamp j = take at ls ++ (new_lives part by ++ remarked old stamp j (drop at ls))
 
@@ -111,8 +110,8 @@ zone_of ls at part by old stamp j i le =
     ⊎_elim {C = IsLow ls made at i ⊎ (IsMid made at n by i ⊎ IsHigh ls made at n old stamp j i)}
     (λ lt. inl (record { low = lt; mark_is = at_front (take at ls) rest i (omega (arith, lt, count)) ∙ at_take at ls i lt }))
     (λ ge. ⊎_elim {C = IsLow ls made at i ⊎ (IsMid made at n by i ⊎ IsHigh ls made at n old stamp j i)}
-    (λ lt. inr (inl (record { from = ge; to = lt; mark_is = at_back (take at ls) rest i (i - at) (omega (arith, ge, count)) ∙ at_front (new_lives part by) (remarked old stamp j (drop at ls)) (i - at) (omega (arith, ge, lt, new_count part by)) ∙ at_new part by (i - at) (omega (arith, ge, lt)) })))
-    (λ far. inr (inr (record { from = far; mark_is = at_back (take at ls) rest i (i - at) (omega (arith, ge, count)) ∙ at_back (new_lives part by) (remarked old stamp j (drop at ls)) (i - at) (i - at - n) (omega (arith, far, new_count part by)) ∙ at_remarked old stamp j (drop at ls) (i - at - n) ∙ ap (exchanged_by old stamp j) (at_drop at ls (i - at - n) ∙ ap (mark_at ls) (omega (arith, far))) })))
+    (λ lt. inr (inl (record { from = ge; to = lt; mark_is = at_back (take at ls) rest i (i - at) (omega (arith, ge, count)) ∙ at_front (new_lives part by) (remarked old stamp j (drop at ls)) (i - at) (omega (arith, ge, lt, new_length part by)) ∙ at_new part by (i - at) (omega (arith, ge, lt)) })))
+    (λ far. inr (inr (record { from = far; mark_is = at_back (take at ls) rest i (i - at) (omega (arith, ge, count)) ∙ at_back (new_lives part by) (remarked old stamp j (drop at ls)) (i - at) (i - at - n) (omega (arith, far, new_length part by)) ∙ at_remarked old stamp j (drop at ls) (i - at - n) ∙ ap (exchanged_by old stamp j) (at_drop at ls (i - at - n) ∙ ap (mark_at ls) (omega (arith, far))) })))
     (cases_lt i (at + n)))
     (cases_lt i at)
 
@@ -127,9 +126,6 @@ record IsExchanged (old : Option Mark) (stamp : Stamp) (j : ℕ) (o : Option Mar
   bore : o ≡ Some torn_mark
   mark_is : m ≡ renewed torn_mark stamp j
 
-some_same : (m n : Mark) → Some m ≡ Some n → m ≡ n
-some_same m n e = cc
-
 none_some : (m : Mark) → None ≡ Some m → ⊥
 none_some m e = cc
 
@@ -143,9 +139,9 @@ exchanged_cases : (old : Option Mark) (stamp : Stamp) (j : ℕ) (o : Option Mark
 exchanged_cases None stamp j o m e = inl (record { bears_it = e; not_torn = λ x. none_some m x })
 exchanged_cases (Some old) stamp j None m e = absurd (none_some m e)
 exchanged_cases (Some old) stamp j (Some q) m e = ⊎_elim {C = IsStill (Some old) (Some q) m ⊎ IsExchanged (Some old) stamp j (Some q) m}
-    (λ t. inr (record { torn_mark = old; torn_is = refl; bore = ap Some (same_mark_is q old t); mark_is = sym (some_same (renewed old stamp j) m (sym (cond-true (same_mark q old) (Some (renewed old stamp j)) (Some q) t) ∙ e)) }))
-    (λ t. let same : q ≡ m = some_same q m (sym (cond-false (same_mark q old) (Some (renewed old stamp j)) (Some q) t) ∙ e) in
-    inl (record { bears_it = ap Some same; not_torn = λ x. self_false m (ap₂ same_mark (sym same) (sym (some_same old m x)) ∙ t) }))
+    (λ t. inr (record { torn_mark = old; torn_is = refl; bore = ap Some (same_mark_is q old t); mark_is = sym (same_Some (renewed old stamp j) m (sym (cond-true (same_mark q old) (Some (renewed old stamp j)) (Some q) t) ∙ e)) }))
+    (λ t. let same : q ≡ m = same_Some q m (sym (cond-false (same_mark q old) (Some (renewed old stamp j)) (Some q) t) ∙ e) in
+    inl (record { bears_it = ap Some same; not_torn = λ x. self_false m (ap₂ same_mark (sym same) (sym (same_Some old m x)) ∙ t) }))
     (cases_Bool (same_mark q old))
 
 still_exchanged : (old : Option Mark) (stamp : Stamp) (j : ℕ) (o : Option Mark) (m : Mark) → o ≡ Some m → (old ≡ Some m → ⊥) → exchanged_by old stamp j o ≡ Some m
@@ -155,11 +151,6 @@ still_exchanged (Some old) stamp j o m e n =
 
 now_exchanged : (old : Option Mark) (stamp : Stamp) (j : ℕ) (o : Option Mark) (x : Mark) → old ≡ Some x → o ≡ Some x → exchanged_by old stamp j o ≡ Some (renewed x stamp j)
 now_exchanged old stamp j o x e f = ap₂ (λ (a b : Option Mark). exchanged_by a stamp j b) e f ∙ cond-true (same_mark x x) (Some (renewed x stamp j)) (Some x) (same_mark_self x)
-
--- a mark on both sides that isn't torn is that of the new cells
-bears_is : (by : Option Mark) (m : Mark) → bears by m ≡ true → by ≡ Some m
-bears_is None m e = cc
-bears_is (Some n) m e = ap Some (same_mark_is n m e)
 
 not_torn_is : (left right by : Option Mark) (m : Mark) → left ≡ Some m → right ≡ Some m → (torn left right by ≡ Some m → ⊥) → by ≡ Some m
 not_torn_is left right by m e f n = ⊎_elim {C = by ≡ Some m}
@@ -270,7 +261,7 @@ high_high ls at part stamp k a b c m le h older ab bc la ea ec =
     (exchanged_cases old stamp j (mark_at ls (c - n)) m ec))
     (λ s. ⊎_elim {C = mark_at (made_of ls at part stamp k) b ≡ Some m}
     (λ t. absurd (not_renewed ls stamp k j older (omega arith) m s.torn_mark (c - n) t.bears_it s.mark_is))
-    (λ t. let same : t.torn_mark ≡ s.torn_mark = some_same t.torn_mark s.torn_mark (sym t.torn_is ∙ s.torn_is) in
+    (λ t. let same : t.torn_mark ≡ s.torn_mark = same_Some t.torn_mark s.torn_mark (sym t.torn_is ∙ s.torn_is) in
     by_zone ls at part stamp k b m le (λ x. absurd (omega (arith, x, ab, la))) (λ x y. absurd (omega (arith, y, ab, la)))
     (λ x. now_exchanged old stamp j (mark_at ls (b - n)) s.torn_mark s.torn_is (h s.torn_mark (a - n) (b - n) (c - n) (omega (arith, ab)) (omega (arith, bc)) s.bore (t.bore ∙ ap Some same)) ∙ ap Some (sym s.mark_is)))
     (exchanged_cases old stamp j (mark_at ls (c - n)) m ec))

@@ -20,6 +20,7 @@ use Rattle.ranges_tracker.proofs.Packing.{same_mark_is, same_mark_self, touch_me
 use Rattle.ranges_tracker.proofs.Cutting.{Lined, lined_cells}
 use Rattle.ranges_tracker.proofs.Merging.{Of, of_lives, of_gone}
 use Rattle.ranges_tracker.proofs.Placing.{Rising, rising_cells}
+use Rattle.ranges_tracker.proofs.Forms.{up_to_past}
 
 -- changes that one does not go on with
 abbrev pub MeetsNone : Change → List Change → Type 0
@@ -109,13 +110,6 @@ past_on a b (d ∷ ds) le = ⊎_elim {C = past b (past a (d ∷ ds)) ≡ past b 
     (λ t. ap (past b) (cond-true (nat_le d.at a) (past a ds) (d ∷ ds) t) ∙ past_on a b ds le ∙ sym (cond-true (nat_le d.at b) (past b ds) (d ∷ ds) (le-leb d.at b (omega (arith, leb-true d.at a t, le)))))
     (λ t. ap (past b) (cond-false (nat_le d.at a) (past a ds) (d ∷ ds) t))
     (cases_Bool (nat_le d.at a))
-
-up_to_past : (at : ℕ) (ds : List Change) → up_to at ds ++ past at ds ≡ ds
-up_to_past at [] = refl
-up_to_past at (d ∷ ds) = ⊎_elim {C = up_to at (d ∷ ds) ++ past at (d ∷ ds) ≡ d ∷ ds}
-    (λ t. ap₂ (λ (x y : List Change). x ++ y) (cond-true (nat_le d.at at) (d ∷ up_to at ds) [] t) (cond-true (nat_le d.at at) (past at ds) (d ∷ ds) t) ∙ ap (λ (x : List Change). d ∷ x) (up_to_past at ds))
-    (λ t. ap₂ (λ (x y : List Change). x ++ y) (cond-false (nat_le d.at at) (d ∷ up_to at ds) [] t) (cond-false (nat_le d.at at) (past at ds) (d ∷ ds) t))
-    (cases_Bool (nat_le d.at at))
 
 -- deletes before inserts that stand no nearer
 merged_on : (a : ℕ) (is ds : List Change) → Lined a is → up_to a ds ++ merged is (past a ds) ≡ merged is ds

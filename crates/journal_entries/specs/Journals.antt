@@ -1,6 +1,7 @@
 -- What contracts see of a journal.
-use Rattle.std.specs.Prelude.{ℕ, ◌^◌, ◌-◌, List, length, min}
+use Rattle.std.specs.Prelude.{ℕ, ◌-◌, List, length, min}
 use Rattle.journal_entries.specs.declared.act.Entry.{Entry}
+use Rattle.journal_entries.specs.declared.limits.TheConstants.{MAX_ENTRIES}
 
 -- its entries, and for how many more there is room
 abbrev pub Journaled : Type 0
@@ -12,10 +13,6 @@ entries j = j.0
 abbrev pub spare : Journaled → ℕ
 spare j = j.1
 
--- no journal is longer
-abbrev pub longest : ℕ
-longest = 2 ^ 61
-
 -- the room that so much memory leaves behind so many entries
 abbrev pub room_in : ℕ → ℕ → ℕ
-room_in capacity len = min capacity longest - len
+room_in capacity len = min capacity MAX_ENTRIES - len

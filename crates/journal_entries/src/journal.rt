@@ -2,14 +2,13 @@
 
 ghost use Rattle.std.specs.Prelude.{◌≡◌, ◌+◌, ◌<◌, ◌≤◌, ◌++◌, ◌∷◌, [], length, slice_get, OnOk, OnErr};
 ghost use Rattle.std.specs.Option.{option_copied};
-ghost use Rattle.journal_entries.specs.Journals.{entries, longest, spare};
+ghost use Rattle.journal_entries.specs.Journals.{entries, spare};
+ghost use Rattle.journal_entries.specs.declared.limits.TheConstants.{MAX_ENTRIES};
 
 use crate::act::Entry;
+use crate::limits::MAX_ENTRIES;
 use std::alloc::{AllocError, Global};
 use std::marker::Model;
-
-/// No journal has more entries: so many fit into no memory.
-const LONGEST: u64 = 2_305_843_009_213_693_952;
 
 /// What happened, entry by entry. Contracts see the entries and beside them the spare room: how many
 /// more go in without taking memory. A journal has at most 2^61 entries.
@@ -20,13 +19,14 @@ pub struct Journal {
 
 impl Model for Journal {
     ghost use Rattle.std.specs.Prelude.{◌≤◌, length, vec_len, vec_capacity};
-    ghost use Rattle.journal_entries.specs.Journals.{Journaled, longest, room_in};
+    ghost use Rattle.journal_entries.specs.Journals.{Journaled, room_in};
+    ghost use Rattle.journal_entries.specs.declared.limits.TheConstants.{MAX_ENTRIES};
 
     ghost Value = { Journaled };
 
     ghost view = { λ j. (j.entries.items, room_in (vec_capacity j.entries) (vec_len j.entries)) };
 
-    ghost invariant = { λ j. length j.entries.items ≤ longest };
+    ghost invariant = { λ j. length j.entries.items ≤ MAX_ENTRIES };
 }
 
 impl Journal {
@@ -42,7 +42,7 @@ impl Journal {
     /// How many entries there are.
     pub fn len(&self) -> u64
         ensures value { result ≡ length (entries self.now) }
-        ensures short { result ≤ longest }
+        ensures short { result ≤ MAX_ENTRIES }
     {
         self.entries.len() as u64
     }
@@ -55,7 +55,7 @@ impl Journal {
         ensures kept { spare self.old ≤ spare self.new }
         ensures full { OnErr result (spare self.old < n) }
     {
-        if n > LONGEST - self.len() {
+        if n > MAX_ENTRIES - self.len() {
             return Err(AllocError);
         }
         self.entries.reserve(n as usize)

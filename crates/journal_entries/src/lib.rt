@@ -5,6 +5,7 @@
 mod act;
 mod copying;
 mod journal;
+mod limits;
 mod message;
 mod sources;
 mod update;
@@ -12,6 +13,9 @@ mod why;
 
 pub use act::{Act, Entry};
 pub use journal::Journal;
+pub use limits::{
+    FIRST_SOURCE, MAX_AGE, MAX_BASE, MAX_CLIENT_UNITS, MAX_ENTRIES, MAX_MOMENT, MAX_RAW_SOURCE,
+};
 pub use message::{Brief, Msg};
 pub use sources::Sources;
 pub use update::{Cause, Outcome, Update};

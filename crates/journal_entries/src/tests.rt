@@ -37,9 +37,7 @@ fn insert(alloc: Global, at: u32) -> Result<Op, Fail> {
     Ok(op)
 }
 
-// An act of each kind.
-fn acts(alloc: Global) -> Result<Vec<Act>, Fail> {
-    let user = name(alloc, "u")?;
+fn sent(alloc: Global) -> Result<Act, Fail> {
     let mut dup = Sources::new(alloc);
     dup.push(5)?;
     let update = Update {
@@ -48,119 +46,142 @@ fn acts(alloc: Global) -> Result<Vec<Act>, Fail> {
         number: 2,
         source: 3,
         dup,
-        user: user.copy(alloc)?,
+        user: name(alloc, "u")?,
         track: true,
         ms: 4,
         v: 5,
         op: insert(alloc, 6)?,
     };
-    let applied = Outcome::Applied {
-        v: 1,
-        op: insert(alloc, 2)?,
-    };
-    let mut acts = Vec::new(alloc);
-    acts.push(Act::Made {
+    Ok(Act::Sent { update })
+}
+
+fn made(alloc: Global) -> Result<Act, Fail> {
+    Ok(Act::Made {
         doc: 0,
         name: name(alloc, "a")?,
         project: name(alloc, "p")?,
         first: Units::sanitized(alloc, "abc")?,
         base: 7,
-    })?;
-    acts.push(Act::Ticked { ms: 8 })?;
-    acts.push(Act::Joined {
+    })
+}
+
+fn joined(alloc: Global) -> Result<Act, Fail> {
+    Ok(Act::Joined {
         client: 1,
         doc: 0,
-        user: user.copy(alloc)?,
+        user: name(alloc, "u")?,
         track: false,
         since: Some(9),
         source: 10,
         v: 11,
-    })?;
-    acts.push(Act::Edited {
-        client: 1,
-        comp: Comp::Com(1, Units::sanitized(alloc, "b")?, 7),
-    })?;
-    acts.push(Act::Sent { update })?;
-    acts.push(Act::Malformed {
-        doc: 0,
-        fault: FormFault::Form(3),
-    })?;
-    acts.push(Act::Got {
-        client: 1,
-        brief: Brief::Ack(2),
-    })?;
-    acts.push(Act::Left { client: 1 })?;
-    acts.push(Act::Acquired {
+    })
+}
+
+fn committed(outcome: Outcome) -> Act {
+    Act::Committed {
         doc: 0,
         token: 1,
-        until: 30_000,
-    })?;
-    acts.push(Act::Loaded {
-        doc: 0,
-        token: None,
-        v: 2,
-    })?;
-    acts.push(Act::LoadFailed {
-        doc: 0,
-        token: Some(1),
-        before: 2,
-        after: 3,
-    })?;
-    acts.push(Act::LoadDiffers {
-        doc: 0,
-        token: Some(1),
-        had: 2,
-        got: None,
-    })?;
-    for outcome in [
-        applied,
-        Outcome::Dup { v: 4 },
-        Outcome::Refused(Cause::Mismatch),
-    ] {
-        acts.push(Act::Committed {
+        ticket: 2,
+        outcome,
+    }
+}
+
+// An act of each kind that takes no memory, and what becomes of an update.
+fn plain_acts() -> [Act; 16] {
+    [
+        Act::Ticked { ms: 8 },
+        Act::Malformed {
+            doc: 0,
+            fault: FormFault::Form(3),
+        },
+        Act::Got {
+            client: 1,
+            brief: Brief::Ack(2),
+        },
+        Act::Left { client: 1 },
+        Act::Acquired {
             doc: 0,
             token: 1,
-            ticket: 2,
-            outcome,
-        })?;
+            until: 30_000,
+        },
+        Act::Loaded {
+            doc: 0,
+            token: None,
+            v: 2,
+        },
+        Act::LoadFailed {
+            doc: 0,
+            token: Some(1),
+            before: 2,
+            after: 3,
+        },
+        Act::LoadDiffers {
+            doc: 0,
+            token: Some(1),
+            had: 2,
+            got: None,
+        },
+        committed(Outcome::Dup { v: 4 }),
+        committed(Outcome::Refused(Cause::Mismatch)),
+        Act::Released { doc: 0, token: 1 },
+        Act::Flushed {
+            doc: 0,
+            token: 1,
+            v: 2,
+        },
+        Act::FlushFailed {
+            doc: 0,
+            token: 1,
+            before: 2,
+            after: 3,
+        },
+        Act::Unloaded { doc: 0, token: 1 },
+        Act::Declined {
+            session: 1,
+            why: Why::Full { comps: 2, units: 3 },
+        },
+        Act::Closed { driver: 4 },
+    ]
+}
+
+fn put(journal: &mut Journal, act: Act) -> Result<(), Fail> {
+    journal.reserve(1)?;
+    journal.push(Entry {
+        seat: 1,
+        line: Some(2),
+        act,
+    });
+    Ok(())
+}
+
+// A journal with an act of each kind.
+fn filled(alloc: Global) -> Result<Journal, Fail> {
+    let mut journal = Journal::new(alloc);
+    put(&mut journal, made(alloc)?)?;
+    put(&mut journal, joined(alloc)?)?;
+    let text = Units::sanitized(alloc, "b")?;
+    put(
+        &mut journal,
+        Act::Edited {
+            client: 1,
+            comp: Comp::Com(1, text, 7),
+        },
+    )?;
+    put(&mut journal, sent(alloc)?)?;
+    let op = insert(alloc, 2)?;
+    put(&mut journal, committed(Outcome::Applied { v: 1, op }))?;
+    let project = name(alloc, "p")?;
+    put(&mut journal, Act::Handed { project, count: 3 })?;
+    for act in plain_acts() {
+        put(&mut journal, act)?;
     }
-    acts.push(Act::Released { doc: 0, token: 1 })?;
-    acts.push(Act::Flushed {
-        doc: 0,
-        token: 1,
-        v: 2,
-    })?;
-    acts.push(Act::FlushFailed {
-        doc: 0,
-        token: 1,
-        before: 2,
-        after: 3,
-    })?;
-    acts.push(Act::Unloaded { doc: 0, token: 1 })?;
-    acts.push(Act::Handed {
-        project: name(alloc, "p")?,
-        count: 3,
-    })?;
-    acts.push(Act::Declined {
-        session: 1,
-        why: Why::Full { comps: 2, units: 3 },
-    })?;
-    acts.push(Act::Closed { driver: 4 })?;
-    Ok(acts)
+    Ok(journal)
 }
 
 #[test]
 fn entries_are_kept_and_copied(rt: HostRuntime) -> Result<(), Fail> {
     let alloc = rt.alloc();
-    let mut journal = Journal::new(alloc);
-    for act in acts(alloc)? {
-        journal.reserve(1)?;
-        journal.push(Entry {
-            seat: 1,
-            line: Some(2),
-            act,
-        });
-    }
+    let mut journal = filled(alloc)?;
     assert_eq!(rt; journal.len(), 22);
     for entry in journal.as_slice() {
         let copied = entry.copy(alloc)?;

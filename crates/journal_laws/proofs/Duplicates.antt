@@ -2,7 +2,7 @@
 use Rattle.std.proofs.Common.{◌≡◌, ◌⊎◌, ℕ, ◌+◌, ◌-◌, ◌<◌, ◌≤◌, List, [], ◌∷◌, ◌++◌, length, map, Bool, true, false, true≢false, ◌&&◌, ◌||◌, refl, sym, ap, ◌∙◌, subst, inl, inr, ⊎_elim, arith, eqb, eq-eqb, append_assoc, length-append, take, drop}
 use Rattle.std.specs.Prelude.{Option, Some, None, if◌then◌else◌, nat_lt}
 use Rattle.std.specs.Option.{option_and_then}
-use Rattle.std.proofs.lemmas.Bool.{cases_lt, eqb-true}
+use Rattle.std.proofs.lemmas.Bool.{cases_lt, eqb-true, ltb-false}
 use Rattle.std.proofs.lemmas.List.{take-append-le}
 use native.Mathlib.Decide.{ℕ_discrete}
 use Rattle.ot_op.specs.declared.comp.Comp.{Comp}
@@ -26,15 +26,15 @@ use Rattle.journal_rules.specs.Legal.{IsAllowed, IsLegal}
 use Rattle.journal_rules.specs.Documents.{IsMade}
 use Rattle.journal_laws.specs.Once.{IsCopy, NamesItem}
 use Rattle.journal_rules.proofs.Pushing.{client-push, client-none, applied_list-push}
-use Rattle.journal_rules.proofs.Legality.{seam, by_last}
+use Rattle.journal_rules.proofs.Legality.{seam, by_last, take_whole}
 use Rattle.journal_rules.proofs.Waits.{waits_sent, update_stays, update_within}
 use Rattle.journal_rules.proofs.Fencing.{making_stays, acquired_made}
 use Rattle.journal_rules.proofs.Lists.{AllIn, AnyIn, Each, all_in-append, all_in_left, all_any, all_any_way, each_all, each_at, each_left, each_right, same_cut, some_same, cut_at_length}
 use Rattle.journal_laws.proofs.Alive.{Mine, OwnedBy, owner_is, start, IsItem, IsFlying, IsGrounded, IsAlive}
-use Rattle.journal_laws.proofs.Updates.{update_new, not_less, Sends, Fresh, Again}
+use Rattle.journal_laws.proofs.Updates.{update_new, Sends, Fresh, Again}
 use Rattle.journal_laws.proofs.World.{World, sent_is, sent_by_client, well}
 use Rattle.journal_laws.proofs.Joins.{added_from}
-use Rattle.journal_laws.proofs.Everything.{world}
+use Rattle.journal_laws.proofs.Everything.{world, nothing_sent}
 
 -- ---- what a decision that finds a duplicate says
 pub record FindsTwin (d : ℕ) (h : List Entry) (u : Update) (v : ℕ) : Type 0 where
@@ -102,11 +102,11 @@ finds_twin d h u w e = first_test (nat_lt (version d h) u.v) refl e
     second_test : (b c : Bool) → nat_lt u.v (base d h) ≡ b → u.v ≤ version d h → (if b || c then Refused (TooOld (version d h)) else concluded (version d h) (text d h) (scanned u.dup u.op (map passed_of rest))) ≡ Dup w → FindsTwin d h u w
     second_test true c b_is low e = absurd (cc)
     second_test false true b_is low e = absurd (cc)
-    second_test false false b_is low e = by_scan (scanned u.dup u.op (map passed_of rest)) refl low (not_less u.v (base d h) b_is) e
+    second_test false false b_is low e = by_scan (scanned u.dup u.op (map passed_of rest)) refl low (ltb-false u.v (base d h) b_is) e
 
     first_test : (b : Bool) → nat_lt (version d h) u.v ≡ b → (if b then Refused (Future (version d h)) else if nat_lt u.v (base d h) || nat_lt (u.v + 100) (version d h) then Refused (TooOld (version d h)) else concluded (version d h) (text d h) (scanned u.dup u.op (map passed_of rest))) ≡ Dup w → FindsTwin d h u w
     first_test true b_is e = absurd (cc)
-    first_test false b_is e = second_test (nat_lt u.v (base d h)) (nat_lt (u.v + 100) (version d h)) refl (not_less (version d h) u.v b_is) e
+    first_test false b_is e = second_test (nat_lt u.v (base d h)) (nat_lt (u.v + 100) (version d h)) refl (ltb-false (version d h) u.v b_is) e
 
 -- ---- sources and numbers, more closely
 pub record Origin (c : ℕ) (j : List Entry) (number source : ℕ) : Type 0 where
@@ -195,10 +195,6 @@ under_by c h (Got client brief) s unsent = under_if (eqb client c) s (got_by s (
 under_by c h (LeftAct client) s unsent = under_if (eqb client c) s (left_by s) s (under_if (is_alive s.state) s (record s { state = Left }) s (inr (refl, refl)) (inr (refl, refl))) (inr (refl, refl))
 under_by c h _ s unsent = inr (refl, refl)
 
-take_end : (j k : List Entry) → take (length j) (j ++ k) ≡ j
-take_end [] k = refl
-take_end (x ∷ xs) k = ap (λ l. x ∷ l) (take_end xs k)
-
 module _ (h : List Entry) (e : Entry) (legal : IsLegal h) (may : IsAllowed h e.seat e.act) (two : Second h) where
   w : World h
   w = world h legal
@@ -207,7 +203,7 @@ module _ (h : List Entry) (e : Entry) (legal : IsLegal h) (may : IsAllowed h e.s
   take_old t u known = let l = update_within h t u known in take-append-le t h (e ∷ []) (omega (arith, l))
 
   take_new : (t : ℕ) → t ≡ length h → take t (h ++ e ∷ []) ≡ h
-  take_new t is = ap (λ n. take n (h ++ e ∷ [])) is ∙ take_end h (e ∷ [])
+  take_new t is = ap (λ n. take n (h ++ e ∷ [])) is ∙ take_whole h (e ∷ [])
 
   origin_new : (c : ℕ) (u : Update) → update_of e.act ≡ Some u → u.client ≡ Some c → Origin c (h ++ e ∷ []) u.number u.source
   origin_new c u is own = record { t = length h; u = u; known = ap update_in (seam h e []) ∙ is; mine = own; number_is = refl; source_is = refl }
@@ -344,16 +340,13 @@ module _ (h : List Entry) (e : Entry) (legal : IsLegal h) (may : IsAllowed h e.s
       (update_new h e t' u' known'))
       (update_new h e t u known)
 
-none_sent : {A : Type 0} (t : ℕ) (u : Update) → update_at [] t ≡ Some u → A
-none_sent t u e = let f : None ≡ Some u = e in absurd (cc)
-
 pub second : (j : List Entry) → IsLegal j → Second j
 second = by_last Second
     (record {
       under_from = λ c source inside. (let f : is_in source [] ≡ true = ap (λ (s : Client). is_in source s.sources) (sym (client-none c)) ∙ inside in absurd (true≢false (sym f)));
-      dup_from = λ c t u source known own inside. none_sent t u known;
-      source_from = λ c t u known own. none_sent t u known;
-      older = λ c t t' u u' known known' own own' less le. none_sent t u known;
+      dup_from = λ c t u source known own inside. nothing_sent t u known;
+      source_from = λ c t u known own. nothing_sent t u known;
+      older = λ c t t' u u' known known' own own' less le. nothing_sent t u known;
     })
     (λ h e legal may two. record { under_from = under_on h e legal may two; dup_from = dup_on h e legal may two; source_from = source_on h e legal may two; older = older_on h e legal may two })
 

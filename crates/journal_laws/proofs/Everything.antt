@@ -23,7 +23,7 @@ use Rattle.journal_laws.proofs.Alive.{IsItem, start, start_by, start-push, start
 use Rattle.journal_rules.specs.Locks.{clock}
 use Rattle.journal_laws.proofs.Updates.{Sends}
 use Rattle.journal_laws.proofs.Mailing.{Delivers}
-use Rattle.journal_laws.proofs.World.{IsWell, World, sent_by_client, joined_alive, owned_on, started_on, unmade_on, counted_on, paired_on}
+use Rattle.journal_laws.proofs.World.{IsWell, World, sent_by_client, joined_alive, owned_on, started_on, unmade_on, counted_on, paired_on, is_of_same}
 use Rattle.journal_laws.proofs.ItemsOn.{items_on}
 use Rattle.journal_laws.proofs.ClientsOn.{alive_states, if_true, if_false, untouched, committed_well, typed_well, left_well, got_well, delivered_is, delivered_alive}
 use Rattle.journal_laws.proofs.Joins.{sent_well, anew_well, back_well}
@@ -31,10 +31,6 @@ use Rattle.journal_laws.proofs.Joins.{sent_well, anew_well, back_well}
 is_of_true : (c : ℕ) (o : Option ℕ) → is_of c o ≡ true → o ≡ Some c
 is_of_true c None e = absurd (true≢false (sym e))
 is_of_true c (Some k) e = ap (λ (n : ℕ). Some n) (eqb-true k c e)
-
-is_of_some : (c : ℕ) (o : Option ℕ) → o ≡ Some c → is_of c o ≡ true
-is_of_some c None e = absurd (cc)
-is_of_some c (Some k) e = let same : k ≡ c = cc in eq-eqb k c same
 
 module _ (h : List Entry) (e : Entry) (legal : IsLegal h) (may : IsAllowed h e.seat e.act) (w : World h) (c : ℕ) where
   -- an act that is nothing of the client's own
@@ -120,7 +116,7 @@ module _ (h : List Entry) (e : Entry) (legal : IsLegal h) (may : IsAllowed h e.s
           (subst (λ (z : Client). Sends c z (clock h) u) (sym s_is) r.1))
       go false not_it =
           other s (Sent u) is x
-          (λ v sent mine. let same : u ≡ v = cc in true≢false (sym (is_of_some c u.client (ap (λ (y : Update). y.client) same ∙ mine)) ∙ not_it))
+          (λ v sent mine. let same : u ≡ v = cc in true≢false (sym (is_of_same c u.client (ap (λ (y : Update). y.client) same ∙ mine)) ∙ not_it))
           (λ n. refl) (λ d. refl) (λ r. refl) (if_false (is_of c u.client) (sent_by s s.flight) s not_it) alive
 
   gets : (s : Client) → s ≡ client c h → (client : ℕ) (brief : Brief) → e.act ≡ Got client brief → is_alive (client_by c h (Got client brief) s).state ≡ true → IsWell c (h ++ e ∷ []) (client_by c h (Got client brief) s)
@@ -196,7 +192,7 @@ world_on h e legal may w = record {
   clients = λ c alive. clients_on h e legal may w c alive;
 }
 
-nothing_sent : {A : Type 0} (t : ℕ) (u : Update) → update_at [] t ≡ Some u → A
+pub nothing_sent : {A : Type 0} (t : ℕ) (u : Update) → update_at [] t ≡ Some u → A
 nothing_sent t u e = let f : None ≡ Some u = e in absurd (cc)
 
 world_none : World []

@@ -122,7 +122,7 @@ small c = by_last (λ j. IsSmall (client c j)) (subst IsSmall (sym (client-none 
     (λ h e legal may a. subst IsSmall (sym (client-push c h e)) (small_by c h e.seat e.act (client c h) refl may a))
 
 -- ---- texts of documents are short
-all_in_get : {A : Type 0} (P : A → Type 0) (xs : List A) (i : ℕ) (x : A) → slice_get xs i ≡ Some x → AllIn P xs → P x
+pub all_in_get : {A : Type 0} (P : A → Type 0) (xs : List A) (i : ℕ) (x : A) → slice_get xs i ≡ Some x → AllIn P xs → P x
 all_in_get P [] i x e a = absurd (cc)
 all_in_get P (y ∷ ys) zero x e a = let same : y ≡ x = cc in subst P same a.0
 all_in_get P (y ∷ ys) (suc i) x e a = all_in_get P ys i x e a.1
@@ -130,7 +130,7 @@ all_in_get P (y ∷ ys) (suc i) x e a = all_in_get P ys i x e a.1
 abbrev IsShort : Making → Type 0
 IsShort m = length m.first ≤ longest
 
-firsts : (j : List Entry) → IsLegal j → AllIn IsShort (makings j)
+pub firsts : (j : List Entry) → IsLegal j → AllIn IsShort (makings j)
 firsts = by_last (λ j. AllIn IsShort (makings j)) (subst (AllIn IsShort) (sym makings-none) tt)
     (λ h e legal may a. subst (AllIn IsShort) (sym (makings-push h e)) (all_in-append IsShort (makings h) (making_of e.act) a (by h e.seat e.act may)))
   where
@@ -138,7 +138,7 @@ firsts = by_last (λ j. AllIn IsShort (makings j)) (subst (AllIn IsShort) (sym m
     by h seat (Made doc name project first base) row = (row.short, tt)
     by h seat _ row = tt
 
-first_short : (d : ℕ) (j : List Entry) → IsLegal j → length (first d j) ≤ longest
+pub first_short : (d : ℕ) (j : List Entry) → IsLegal j → length (first d j) ≤ longest
 first_short d j legal = go (slice_get (makings j) d) refl
   where
     go : (o : Option Making) → slice_get (makings j) d ≡ o → length (first_in o) ≤ longest

@@ -2,7 +2,7 @@
 use Rattle.std.proofs.Common.{◌≡◌, ◌⊎◌, ℕ, ◌+◌, ◌-◌, ◌<◌, ◌≤◌, List, [], ◌∷◌, ◌++◌, length, map, Bool, true, false, true≢false, ◌||◌, refl, sym, ap, ◌∙◌, subst, inl, inr, ⊎_elim, arith, length-append, take, drop}
 use Rattle.std.specs.Prelude.{Option, Some, None, slice_get, if◌then◌else◌, nat_lt}
 use Rattle.std.specs.Option.{option_and_then}
-use Rattle.std.proofs.lemmas.Bool.{cases_lt}
+use Rattle.std.proofs.lemmas.Bool.{cases_lt, ltb-false}
 use Rattle.std.proofs.lemmas.Bool.Decides.{nat_tests}
 use Rattle.std.proofs.lemmas.Option.{slice_get_within, slice_get_past}
 use Rattle.ot_op.specs.declared.comp.Comp.{Comp}
@@ -98,9 +98,6 @@ or_false : (a b : Bool) → (a || b) ≡ false → (a ≡ false) × (b ≡ false
 or_false true b e = absurd (true≢false e)
 or_false false b e = (refl, e)
 
-pub not_less : (a b : ℕ) → nat_lt a b ≡ false → b ≤ a
-not_less a b e = grind (arith, nat_tests)
-
 pub decided_applies : (d : ℕ) (h : List Entry) (u : Update) (v : ℕ) (op : List Comp) → decided h d u ≡ Applied v op → Decided d h u v op
 decided_applies d h u v op e = first_test (nat_lt (version d h) u.v) refl e
   where
@@ -125,7 +122,7 @@ decided_applies d h u v op e = first_test (nat_lt (version d h) u.v) refl e
           to = next;
           here_is = at;
           to_is = ap (applied_all here) (sym same) ∙ to;
-          short = not_less longest (length next) b_is;
+          short = ltb-false longest (length next) b_is;
         }
 
     by_next : (o : List Comp) (here : List ℕ) (r : Option (List ℕ)) → applied_all here o ≡ r → u.v ≤ version d h → base d h ≤ u.v → scanned u.dup u.op (map passed_of rest) ≡ Moved o → text d h ≡ Some here → fitted (version d h) o r ≡ Applied v op → Decided d h u v op
@@ -144,12 +141,12 @@ decided_applies d h u v op e = first_test (nat_lt (version d h) u.v) refl e
     second_test : (b : Bool) → (nat_lt u.v (base d h) || nat_lt (u.v + 100) (version d h)) ≡ b → u.v ≤ version d h
         → (if b then Refused (TooOld (version d h)) else concluded (version d h) (text d h) (scanned u.dup u.op (map passed_of rest))) ≡ Applied v op → Decided d h u v op
     second_test true b_is low e = absurd (cc)
-    second_test false b_is low e = by_scan (scanned u.dup u.op (map passed_of rest)) refl low (not_less u.v (base d h) (or_false (nat_lt u.v (base d h)) (nat_lt (u.v + 100) (version d h)) b_is).0) e
+    second_test false b_is low e = by_scan (scanned u.dup u.op (map passed_of rest)) refl low (ltb-false u.v (base d h) (or_false (nat_lt u.v (base d h)) (nat_lt (u.v + 100) (version d h)) b_is).0) e
 
     first_test : (b : Bool) → nat_lt (version d h) u.v ≡ b
         → (if b then Refused (Future (version d h)) else if nat_lt u.v (base d h) || nat_lt (u.v + 100) (version d h) then Refused (TooOld (version d h)) else concluded (version d h) (text d h) (scanned u.dup u.op (map passed_of rest))) ≡ Applied v op → Decided d h u v op
     first_test true b_is e = absurd (cc)
-    first_test false b_is e = second_test (nat_lt u.v (base d h) || nat_lt (u.v + 100) (version d h)) refl (not_less (version d h) u.v b_is) e
+    first_test false b_is e = second_test (nat_lt u.v (base d h) || nat_lt (u.v + 100) (version d h)) refl (ltb-false (version d h) u.v b_is) e
 
 -- a duplicate names one of the items from the update's version on
 pub decided_twin : (d : ℕ) (h : List Entry) (u : Update) (w : ℕ) → decided h d u ≡ Dup w → AnyIn (λ (x : Item). x.v ≡ w) (drop (u.v - base d h) (applied_list d h))

@@ -143,7 +143,7 @@ number_by c h _ s = omega arith
 pub number_grows : (c : ℕ) (h : List Entry) (e : Entry) → (client c h).number ≤ (client c (h ++ e ∷ [])).number
 number_grows c h e = let n = number_by c h e.act (client c h) in let p : (client c (h ++ e ∷ [])).number ≡ (client_by c h e.act (client c h)).number = ap (λ (s : Client). s.number) (client-push c h e) in omega (arith, n, p)
 
-is_of_same : (c : ℕ) (o : Option ℕ) → o ≡ Some c → is_of c o ≡ true
+pub is_of_same : (c : ℕ) (o : Option ℕ) → o ≡ Some c → is_of c o ≡ true
 is_of_same c None e = absurd (cc)
 is_of_same c (Some k) e = eq-eqb k c (some_same k c e)
 

@@ -16,7 +16,7 @@ legal_front h more legal i e at =
     let l = slice_get_within h i e at in
     subst (λ (b : List Entry). IsAllowed b e.seat e.act) (take-append-le i h more (omega (arith, l))) (legal i e (front h more i e at))
 
-take_whole : (j k : List Entry) → take (length j) (j ++ k) ≡ j
+pub take_whole : (j k : List Entry) → take (length j) (j ++ k) ≡ j
 take_whole [] k = refl
 take_whole (x ∷ xs) k = ap (λ l. x ∷ l) (take_whole xs k)
 

@@ -11,10 +11,10 @@ use Rattle.ot_op.proofs.Pieces.{ins_cut, del_cut, com_cut}
 use Rattle.ot_transform.specs.Size.{edit_units, edit_units_in, comment_count, comments_in, BothNoLarger}
 use Rattle.ot_transform.specs.Crossing.{crossed}
 use Rattle.ot_transform.proofs.Depth.{IfGiven, given_weaker}
-use Rattle.ot_transform.proofs.Converging.{First, first_of_list}
 use Rattle.ot_transform.proofs.Following.{crossed_no_larger}
 use Rattle.journal_rules.specs.Client.{places_fit, greatest_place}
 use Rattle.journal_rules.specs.Whys.{most_components, most_units}
+use Rattle.ot_op.proofs.Applying.{First, first_of_all}
 
 -- one component that applies
 one_size : (text next : List ℕ) (c : Comp) → applied text c ≡ Some next → (place c ≤ length text) × (length next ≤ length text + edit_units c)
@@ -44,7 +44,7 @@ low_place n le = grind (arith, nat_tests)
 pub all_size : (text next : List ℕ) (cs : List Comp) → applied_all text cs ≡ Some next → length text + edit_units_in cs ≤ greatest_place → (length next ≤ length text + edit_units_in cs) × (places_fit cs ≡ true)
 all_size text next [] e le = let same : length text ≡ length next = ap length (let s : text ≡ next = cc in s) in (omega (arith, same), refl)
 all_size text next (c ∷ cs) e le =
-    let f : First text c cs next = first_of_list text c cs next e in
+    let f : First text c cs next = first_of_all text c cs next e in
     let one = one_size text f.mid c f.here in
     let u = sum_by-cons edit_units c cs in
     let a = one.0 in let b = one.1 in

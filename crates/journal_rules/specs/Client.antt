@@ -18,6 +18,8 @@ use Rattle.journal_rules.specs.declared.state.ClientState.TheVariants.{Away, Joi
 use Rattle.journal_rules.specs.Folds.{folded}
 use Rattle.journal_rules.specs.Documents.{Item, applied_list, base, text_at, is_in}
 use Rattle.journal_rules.specs.Mail.{mail}
+use Rattle.ot_op.specs.declared.limits.TheConstants.{MAX_PLACE}
+use Rattle.journal_entries.specs.declared.limits.TheConstants.{MAX_CLIENT_UNITS}
 
 -- a client: its document, its text at a version of it, the operation in flight with its number and the sources under which it was sent, and what is pending behind it
 pub record Client : Type 0 where
@@ -47,10 +49,10 @@ stale s = record s { state = Stale }
 
 -- the bounds of a client: the greatest place of its operations, and the greatest length of its text
 abbrev pub greatest_place : ℕ
-greatest_place = 1000000000
+greatest_place = MAX_PLACE
 
 abbrev pub longest_text : ℕ
-longest_text = 4194304
+longest_text = MAX_CLIENT_UNITS
 
 abbrev pub places_fit : List Comp → Bool
 places_fit op = list_all (λ c. nat_le (place c) greatest_place) op

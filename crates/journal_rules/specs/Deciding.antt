@@ -10,6 +10,8 @@ use Rattle.journal_entries.specs.declared.update.Outcome.TheVariants.{Applied, D
 use Rattle.journal_entries.specs.declared.update.Cause.TheVariants.{Future, TooOld, Mismatch, TooLong}
 use Rattle.journal_entries.specs.declared.act.Entry.{Entry}
 use Rattle.journal_rules.specs.Documents.{Item, applied_list, base, version, text, is_in}
+use Rattle.ot_op.specs.declared.limits.TheConstants.{MAX_TEXT_UNITS}
+use Rattle.journal_entries.specs.declared.limits.TheConstants.{MAX_AGE}
 
 -- an operation that was applied: its version, the source of its update, and itself
 pub record Passed : Type 0 where
@@ -36,10 +38,10 @@ scanned dup op (x ∷ xs) = if is_in x.source dup then Twin x.v else moved_on (c
 
 -- the greatest length of a document's text in units, and the greatest age of an update in versions
 abbrev pub longest : ℕ
-longest = 2097152
+longest = MAX_TEXT_UNITS
 
 abbrev pub greatest_age : ℕ
-greatest_age = 100
+greatest_age = MAX_AGE
 
 -- an operation fits where it applies and the text is not too long then
 abbrev pub fitted : ℕ → List Comp → Option (List ℕ) → Outcome

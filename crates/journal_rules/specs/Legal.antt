@@ -29,19 +29,21 @@ use Rattle.journal_rules.specs.Client.{client, sending}
 use Rattle.journal_rules.specs.Keeping.{kept, cached, loading, FailedUnder, faults}
 use Rattle.journal_rules.specs.History.{history}
 use Rattle.journal_rules.specs.Whys.{most_components, most_units, IsWhy}
+use Rattle.ot_op.specs.declared.limits.TheConstants.{MAX_COMPONENTS, MAX_OPERATION_UNITS, MAX_PLACE}
+use Rattle.journal_entries.specs.declared.limits.TheConstants.{FIRST_SOURCE, MAX_BASE, MAX_MOMENT, MAX_RAW_SOURCE}
 
 -- the greatest version at which a document may be made
 abbrev pub highest_base : ℕ
-highest_base = 9007199254740991
+highest_base = MAX_BASE
 
 abbrev pub units : List Comp → ℕ
 units op = sum_by units_of op
 
 -- the limits of a raw operation
 pub record IsRaw (op : List Comp) : Type 0 where
-  pub few : length op ≤ 1000
-  pub short : units op ≤ 65536
-  pub in_reach : All (λ c. place c ≤ 1000000000) op
+  pub few : length op ≤ MAX_COMPONENTS
+  pub short : units op ≤ MAX_OPERATION_UNITS
+  pub in_reach : All (λ c. place c ≤ MAX_PLACE) op
 
 -- a document is made
 pub record IsMaking (before : List Entry) (doc : ℕ) (name first : List ℕ) (base : ℕ) : Type 0 where
@@ -52,7 +54,7 @@ pub record IsMaking (before : List Entry) (doc : ℕ) (name first : List ℕ) (b
 
 -- the source of a joining: each joining has its own, and no raw update has one so high
 abbrev pub source_at : List Entry → ℕ
-source_at before = 1000000 + length before
+source_at before = FIRST_SOURCE + length before
 
 -- a client joins a document, or comes back to where it left
 pub record IsJoining (before : List Entry) (doc source v : ℕ) : Type 0 where
@@ -87,7 +89,7 @@ pub record IsEdit (before : List Entry) (c : ℕ) (comp : Comp) : Type 0 where
 pub record IsRawUpdate (before : List Entry) (u : Update) : Type 0 where
   pub made : IsMade u.doc before
   pub unnumbered : u.number ≡ 0
-  pub source_low : u.source ≤ 999999
+  pub source_low : u.source ≤ MAX_RAW_SOURCE
   pub at_once : u.ms ≡ clock before
   pub within : IsRaw u.op
 
@@ -200,7 +202,7 @@ closed journal = gathered (λ before e. closed_by e.act) journal
 
 -- the greatest moment of the clock
 abbrev pub clock_end : ℕ
-clock_end = 2 ^ 62
+clock_end = MAX_MOMENT
 
 -- the rows: an act by a seat is allowed by the entries before it
 abbrev pub IsAllowed : List Entry → ℕ → Act → Type 0

@@ -15,13 +15,14 @@ use Rattle.journal_rules.specs.Locks.{Acquiring, HeldBy, is_expired, last_token,
 use Rattle.journal_rules.specs.Mail.{mail}
 use Rattle.journal_rules.specs.Client.{client, has_flight}
 use Rattle.journal_rules.specs.Keeping.{kept, cached}
+use Rattle.ot_op.specs.declared.limits.TheConstants.{MAX_COMPONENTS, MAX_OPERATION_UNITS}
 
 -- the limits of an operation that is sent: its components, and the units of their texts
 abbrev pub most_components : ℕ
-most_components = 1000
+most_components = MAX_COMPONENTS
 
 abbrev pub most_units : ℕ
-most_units = 65536
+most_units = MAX_OPERATION_UNITS
 
 -- the client left, and its document has gone on too far since
 pub record IsTooOld (before : List Entry) (c have : ℕ) : Type 0 where

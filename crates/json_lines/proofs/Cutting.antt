@@ -2,7 +2,7 @@
 use Rattle.std.proofs.Common.{◌≡◌, ◌++◌, ℕ, suc, ◌+◌, ◌-◌, ◌<◌, ◌≤◌, ◌==◌, nat_lt, List, [], ◌∷◌, length, take, drop, Bool, true, false, cond, not, Some, None, position, refl, ap, arith, add-one}
 use Rattle.std.specs.List.{position_or_len}
 use Rattle.std.proofs.lemmas.List.{take_rest}
-use Rattle.std.proofs.lemmas.Bool.{and_parts}
+use Rattle.std.proofs.lemmas.Bool.{and_parts, ltb-false}
 use Rattle.std.proofs.lemmas.Bool.Decides.{nat_tests}
 use Rattle.json_lines.specs.Clean.{is_clean}
 use Rattle.json_lines.specs.Lines.{lines_of, onto_first}
@@ -51,9 +51,6 @@ none_picked false p e = refl
 is_below : (p n : ℕ) → nat_lt p n ≡ true → p < n
 is_below p n h = grind (arith, nat_tests)
 
-is_not_below : (p n : ℕ) → nat_lt p n ≡ false → n ≤ p
-is_not_below p n h = grind (arith, nat_tests)
-
 pub line_at : (xs : List ℕ) (i : ℕ) → Some i ≡ position is_feed xs → lines_of xs ≡ take i xs ∷ lines_of (take (length xs - (i + 1)) (drop (i + 1) xs))
 line_at xs i e =
     let p = picked (nat_lt (position_or_len is_feed xs) (length xs)) _ i e in
@@ -63,7 +60,7 @@ pub line_alone : (xs : List ℕ) → 0 < length xs → None ≡ position is_feed
 line_alone xs some e =
     let p = none_picked (nat_lt (position_or_len is_feed xs) (length xs)) _ e in
     let none : take (length xs - length xs) (drop (length xs) xs) ≡ [] = grind arith in
-    rw none (lines_only xs some (is_not_below _ _ p))
+    rw none (lines_only xs some (ltb-false _ _ p))
 
 cut_step : (b : Bool) (x : ℕ) (line : List ℕ) (rest cut : List (List ℕ)) → not b ≡ true → cut ≡ line ∷ rest → cond b ([] ∷ cut) (onto_first x cut) ≡ (x ∷ line) ∷ rest
 cut_step true x line rest cut h e = absurd cc

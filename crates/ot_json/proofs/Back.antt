@@ -21,7 +21,8 @@ use Rattle.ot_json.specs.declared.reading.Grammar.{Grammar}
 use Rattle.ot_json.specs.declared.reading.Grammar.TheVariants.{Sent, Stored}
 use Rattle.ot_json.specs.declared.reading.Reading.TheVariants.{Kept}
 use Rattle.json_lines.specs.Reading.{within}
-use Rattle.ot_json.specs.Form.{Written, insert, delete, comment, max_place, max_thread, written_of}
+use Rattle.ot_json.specs.Form.{Written, insert, delete, comment, max_thread, written_of}
+use Rattle.ot_op.specs.declared.limits.TheConstants.{MAX_PLACE}
 use Rattle.ot_json.specs.Reading.{reading_of}
 use Rattle.ot_json.specs.Grammar.{AreInReach, IsComponent, IsWithinLimits, component_data, components_or_fault, is_out_of_form, is_supplementary, kept, long_operation_of, operation_data, operation_of, readings, unless_large}
 
@@ -72,12 +73,12 @@ written_comp (Com p us t) = comment (encode_utf8_all us) p t
 small : (max n : ℕ) → n ≤ max → within max n ≡ Some n
 small max n h = grind (arith, nat_tests)
 
-written_back : (c : Comp) → IsComponent c → place c ≤ max_place → written_of (component_data c) ≡ Some (written_comp c)
-written_back (Ins p us) t h = rw (small max_place p h)
-written_back (Del p us) t h = rw (small max_place p h)
-written_back (Com p us n) t h = rw (small max_place p h, small max_thread n t.1)
+written_back : (c : Comp) → IsComponent c → place c ≤ MAX_PLACE → written_of (component_data c) ≡ Some (written_comp c)
+written_back (Ins p us) t h = rw (small MAX_PLACE p h)
+written_back (Del p us) t h = rw (small MAX_PLACE p h)
+written_back (Com p us n) t h = rw (small MAX_PLACE p h, small max_thread n t.1)
 
-component_back : (grammar : Grammar) (c : Comp) → IsComponent c → is_void c ≡ false → place c ≤ max_place
+component_back : (grammar : Grammar) (c : Comp) → IsComponent c → is_void c ≡ false → place c ≤ MAX_PLACE
     → reading_of grammar (written_of (component_data c)) ≡ Kept c
 component_back Sent (Ins p us) t v h = rw (written_back (Ins p us) t h, sanitized_back us t, v)
 component_back Sent (Del p us) t v h = rw (written_back (Del p us) t h, exact_back us t, v)
@@ -93,7 +94,7 @@ readings_back : (grammar : Grammar) (cs : List Comp) → All IsComponent cs → 
 readings_back grammar [] t v h = refl
 readings_back grammar (c ∷ cs) t v h =
     let P : Comp → Type 0 = λ d. is_void d ≡ false in
-    let Q : Comp → Type 0 = λ d. place d ≤ max_place in
+    let Q : Comp → Type 0 = λ d. place d ≤ MAX_PLACE in
     ap₂ (λ x xs. x ∷ xs) (component_back grammar c (All-head IsComponent c cs t) (All-head P c cs v) (All-head Q c cs h))
     (readings_back grammar cs (All-tail IsComponent c cs t) (All-tail P c cs v) (All-tail Q c cs h))
 

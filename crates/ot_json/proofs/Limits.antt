@@ -14,7 +14,8 @@ use Rattle.ot_op.specs.Operation.{is_void, place}
 use Rattle.ot_json.specs.declared.reading.Grammar.TheVariants.{Sent}
 use Rattle.ot_json.specs.declared.reading.Reading.{Reading}
 use Rattle.ot_json.specs.declared.reading.Reading.TheVariants.{Kept, Dropped, Supplementary, OutOfForm}
-use Rattle.ot_json.specs.Form.{Written, insert, delete, comment, max_place, place_at, thread_at, insert_of, delete_of, comment_of, written_of}
+use Rattle.ot_op.specs.declared.limits.TheConstants.{MAX_PLACE}
+use Rattle.ot_json.specs.Form.{Written, insert, delete, comment, place_at, thread_at, insert_of, delete_of, comment_of, written_of}
 use Rattle.ot_json.specs.Reading.{unless_void, exactly, sent_reading, reading_of}
 use Rattle.ot_json.specs.Grammar.{kept, readings, is_out_of_form, is_supplementary, unless_faulty, components_or_fault, array_or_fault, unless_large, total_units, operation_of, IsWithinLimits}
 use Rattle.ot_json.proofs.Given.{IfGiven, all_none, given_then, given_map_with, given_with, given_choice, given_or, whole_given, all_given}
@@ -23,18 +24,18 @@ abbrev InReach : Comp → Type 0
 InReach c = place c ≤ 1000000000
 
 abbrev IsNear : Written → Type 0
-IsNear (insert s p) = p ≤ 1000000000
-IsNear (delete s p) = p ≤ 1000000000
-IsNear (comment s p t) = p ≤ 1000000000
+IsNear (insert s p) = p ≤ MAX_PLACE
+IsNear (delete s p) = p ≤ MAX_PLACE
+IsNear (comment s p t) = p ≤ MAX_PLACE
 
 insert_near : (d : Data) → IfGiven IsNear (insert_of d)
-insert_near d = given_then IsNear _ (text_at (codes "i") d) (λ s. given_map_with (λ p. p ≤ 1000000000) IsNear (λ p. insert s p) (place_at d) (whole_given max_place (codes "p") d) (λ p h. h))
+insert_near d = given_then IsNear _ (text_at (codes "i") d) (λ s. given_map_with (λ p. p ≤ MAX_PLACE) IsNear (λ p. insert s p) (place_at d) (whole_given MAX_PLACE (codes "p") d) (λ p h. h))
 
 delete_near : (d : Data) → IfGiven IsNear (delete_of d)
-delete_near d = given_then IsNear _ (text_at (codes "d") d) (λ s. given_map_with (λ p. p ≤ 1000000000) IsNear (λ p. delete s p) (place_at d) (whole_given max_place (codes "p") d) (λ p h. h))
+delete_near d = given_then IsNear _ (text_at (codes "d") d) (λ s. given_map_with (λ p. p ≤ MAX_PLACE) IsNear (λ p. delete s p) (place_at d) (whole_given MAX_PLACE (codes "p") d) (λ p h. h))
 
 comment_near : (d : Data) → IfGiven IsNear (comment_of d)
-comment_near d = given_then IsNear _ (text_at (codes "c") d) (λ s. given_with (λ p. p ≤ 1000000000) IsNear _ (place_at d) (whole_given max_place (codes "p") d)
+comment_near d = given_then IsNear _ (text_at (codes "c") d) (λ s. given_with (λ p. p ≤ MAX_PLACE) IsNear _ (place_at d) (whole_given MAX_PLACE (codes "p") d)
     (λ p h. given_map_with (λ t. t ≤ 4294967295) IsNear (λ t. comment s p t) (thread_at d) (whole_given 4294967295 (codes "t") d) (λ t _. h)))
 
 written_near : (d : Data) → IfGiven IsNear (written_of d)

@@ -3,6 +3,7 @@ use Rattle.std.specs.Prelude.{ℕ, ◌==◌, List, codes, Option, None, option_m
 use Rattle.std.specs.Option.{option_or}
 use Rattle.json_lines.specs.Reading.{key_count, text_at, whole_at}
 use Rattle.serde_json.specs.Data.{Data}
+use Rattle.ot_op.specs.declared.limits.TheConstants.{MAX_PLACE}
 use Rattle.ot_json.specs.declared.component.Component.{Component}
 use Rattle.ot_json.specs.declared.component.Component.TheVariants.{Insert, Delete, Comment}
 
@@ -12,14 +13,11 @@ pub data Written : Type 0 where
   delete : List ℕ → ℕ → Written
   comment : List ℕ → ℕ → ℕ → Written
 
-abbrev pub max_place : ℕ
-max_place = 1000000000
-
 abbrev pub max_thread : ℕ
 max_thread = 4294967295
 
 abbrev pub place_at : Data → Option ℕ
-place_at d = whole_at max_place (codes "p") d
+place_at d = whole_at MAX_PLACE (codes "p") d
 
 abbrev pub thread_at : Data → Option ℕ
 thread_at d = whole_at max_thread (codes "t") d

@@ -17,7 +17,8 @@ use Rattle.ot_json.specs.declared.reading.Grammar.{Grammar}
 use Rattle.ot_json.specs.declared.reading.Grammar.TheVariants.{Sent, Stored}
 use Rattle.ot_json.specs.declared.reading.Reading.{Reading}
 use Rattle.ot_json.specs.declared.reading.Reading.TheVariants.{Kept, Dropped, Supplementary, OutOfForm}
-use Rattle.ot_json.specs.Form.{max_place, max_thread, written_of}
+use Rattle.ot_json.specs.Form.{max_thread, written_of}
+use Rattle.ot_op.specs.declared.limits.TheConstants.{MAX_COMPONENTS, MAX_OPERATION_UNITS, MAX_PLACE}
 use Rattle.ot_json.specs.Reading.{reading_of}
 
 -- ---- reading
@@ -59,19 +60,13 @@ array_or_fault grammar (Some ds) = components_or_fault (readings grammar ds)
 
 -- ---- how large an operation may be
 
-abbrev pub max_comps : ℕ
-max_comps = 1000
-
-abbrev pub max_units : ℕ
-max_units = 65536
-
 abbrev pub total_units : List Comp → ℕ
 total_units comps = sum_by units_of comps
 
 abbrev pub unless_large : Result (List Comp) FormFault → Result (List Comp) FormFault
 unless_large (Err f) = Err f
 unless_large (Ok comps) =
-    if nat_le (length comps) max_comps && nat_le (total_units comps) max_units then Ok comps
+    if nat_le (length comps) MAX_COMPONENTS && nat_le (total_units comps) MAX_OPERATION_UNITS then Ok comps
     else Err (fault.TooLarge (length comps) (total_units comps))
 
 -- ---- the two grammars
@@ -107,10 +102,10 @@ IsComponent (Com p us t) = IsText us × (t ≤ max_thread)
 
 -- each place may be written
 abbrev pub AreInReach : List Comp → Type 0
-AreInReach comps = All (λ c. place c ≤ max_place) comps
+AreInReach comps = All (λ c. place c ≤ MAX_PLACE) comps
 
 -- a client may send the operation
 pub record IsWithinLimits (comps : List Comp) : Type 0 where
   pub in_reach : AreInReach comps
-  pub few : length comps ≤ max_comps
-  pub short : total_units comps ≤ max_units
+  pub few : length comps ≤ MAX_COMPONENTS
+  pub short : total_units comps ≤ MAX_OPERATION_UNITS

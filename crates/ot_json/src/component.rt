@@ -4,10 +4,8 @@ ghost use Rattle.ot_json.specs.Form.{comment_of, delete_of, insert_of, place_at,
 ghost use Rattle.serde_json.specs.View.{view};
 
 use json_lines::{count_keys, number_within, text_of};
+use ot_op::MAX_PLACE;
 use serde_json::Value;
-
-/// The greatest place that a component may have, in UTF-16 code units.
-const MAX_PLACE: u64 = 1_000_000_000;
 
 /// A component that is in form: its text, its place and, of a comment, the thread.
 #[derive(Clone, Copy, Drop)]
@@ -56,7 +54,7 @@ fn read_comment(value: &Value) -> Option<Component<'_>>
 fn read_place(value: &Value) -> Option<u32>
     ensures { result ≡ place_at (view value.now) }
 {
-    let place = number_within(value, "p", MAX_PLACE)?;
+    let place = number_within(value, "p", MAX_PLACE as u64)?;
     Some(place as u32)
 }
 

@@ -7,15 +7,9 @@ ghost use Rattle.serde_json.specs.View.{items_view, view};
 
 use crate::OpFault;
 use crate::reading::{Grammar, Reading, read_element};
-use ot_op::{Comp, FormFault, Op};
+use ot_op::{Comp, FormFault, MAX_COMPONENTS, MAX_OPERATION_UNITS, Op};
 use serde_json::Value;
 use std::alloc::Global;
-
-/// The most components that an operation may have.
-const MAX_COMPS: u64 = 1_000;
-
-/// The most UTF-16 code units that the texts of an operation's components may have together.
-const MAX_UNITS: u64 = 65_536;
 
 /// The operation that a client sent.
 ///
@@ -92,7 +86,7 @@ fn check_size(comps: &[Comp]) -> Result<(), OpFault>
     let Some(units) = count_units(comps) else {
         return Err(OpFault::Memory);
     };
-    if count > MAX_COMPS || units > MAX_UNITS {
+    if count > MAX_COMPONENTS || units > MAX_OPERATION_UNITS {
         return Err(OpFault::Bad(FormFault::TooLarge {
             comps: count,
             units,

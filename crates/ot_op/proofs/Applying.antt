@@ -1,5 +1,5 @@
 -- Applying a list of components, step by step.
-use Rattle.std.proofs.Common.{◌≡◌, ℕ, ◌+◌, ◌<◌, List, [], ◌∷◌, ◌++◌, refl, ap, sym, ◌∙◌, take, drop, length, get_or, Some, None, Option, drop-cons}
+use Rattle.std.proofs.Common.{◌≡◌, ℕ, ◌+◌, ◌<◌, List, [], ◌∷◌, ◌++◌, refl, ap, sym, ◌∙◌, take, drop, length, get_or, Some, None, Option, drop-cons, take-append-drop}
 use Rattle.std.specs.Option.{option_and_then}
 use Rattle.std.proofs.lemmas.List.{take_more}
 use Rattle.ot_op.specs.declared.comp.Comp.{Comp}
@@ -28,3 +28,25 @@ pub failing_at : (text left : List ℕ) (cs : List Comp) (k : ℕ) (c : Comp) �
 failing_at text left cs k c lt is before here =
     let one : take 1 (drop k cs) ≡ c ∷ [] = rw (drop-cons cs k c lt) (ap (λ x. x ∷ []) (sym is)) in
     (lt, before, rw (one, applied_all-one) here)
+
+-- where the first component of the rest doesn't apply, the whole doesn't
+pub failing_none : (text left : List ℕ) (op : List Comp) (k : ℕ) → IsFailing text op left k → applied_all text op ≡ None
+failing_none text left op k fails =
+    let cut : op ≡ take k op ++ (take 1 (drop k op) ++ drop 1 (drop k op)) = sym (take-append-drop k op) ∙ ap (λ l. take k op ++ l) (sym (take-append-drop 1 (drop k op))) in
+    let rest : applied_all left (take 1 (drop k op) ++ drop 1 (drop k op)) ≡ None =
+    applied_all-append left (take 1 (drop k op)) (drop 1 (drop k op)) ∙ ap (λ o. option_and_then (λ next. applied_all next (drop 1 (drop k op))) o) fails.2 in
+    ap (applied_all text) cut ∙ applied_all-append text (take k op) (take 1 (drop k op) ++ drop 1 (drop k op))
+    ∙ ap (λ o. option_and_then (λ next. applied_all next (take 1 (drop k op) ++ drop 1 (drop k op))) o) fails.1 ∙ rest
+
+-- the first component applies, and the others to what it makes
+pub record First (text : List ℕ) (c : Comp) (cs : List Comp) (next : List ℕ) : Type 0 where
+  pub mid : List ℕ
+  pub here : applied text c ≡ Some mid
+  pub rest : applied_all mid cs ≡ Some next
+
+pub first_of_all : (text : List ℕ) (c : Comp) (cs : List Comp) (next : List ℕ) → applied_all text (c ∷ cs) ≡ Some next → First text c cs next
+first_of_all text c cs next e = go (applied text c) refl e
+  where
+    go : (o : Option (List ℕ)) → applied text c ≡ o → option_and_then (λ x. applied_all x cs) o ≡ Some next → First text c cs next
+    go None is h = cc
+    go (Some mid) is h = record { mid = mid; here = is; rest = h }

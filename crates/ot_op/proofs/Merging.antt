@@ -12,7 +12,8 @@ use Rattle.ot_op.specs.Compose.{behind, joined, appended, composed, DoesBoth, Do
 use Rattle.ot_op.specs.declared.comp.Comp.{Comp}
 use Rattle.ot_op.specs.declared.comp.Comp.TheVariants.{Ins, Del, Com}
 use Rattle.ot_op.proofs.Applying.{applied_all-one}
-use Rattle.ot_op.proofs.Pieces.{Cut, ins_as, del_as, ins_at, del_at, ins_cut, del_cut, cut_text, nested, Nested, put_mid, both_true}
+use Rattle.ot_op.proofs.Pieces.{Cut, ins_as, del_as, ins_at, del_at, ins_cut, del_cut, cut_text, nested, Nested, put_mid}
+use Rattle.std.proofs.lemmas.Bool.{and_parts}
 
 -- an insert or delete of nothing
 void_does : (text next : List ℕ) (c : Comp) → is_void c ≡ true → applied text c ≡ Some next → text ≡ next
@@ -117,7 +118,7 @@ joined_same : (text : List ℕ) (l c : Comp) → applied_all text (joined l c) �
 joined_same text (Ins p s) (Ins q u) =
     joined_if (nat_le p q && nat_le q (p + length s)) text _ (Ins p s) (Ins q u)
     (λ t.
-    let b = both_true _ _ t in
+    let b = and_parts _ _ t in
     let low : p ≤ q = leb-true p q b.0 in
     let high : q ≤ p + length s = leb-true q (p + length s) b.1 in
     one_option _ _ (λ to e. ins_parted text to p s q u low high e)
@@ -128,7 +129,7 @@ joined_same text (Del p s) (Ins q u) = two_same text (Del p s) (Ins q u)
 joined_same text (Del p s) (Del q u) =
     joined_if (nat_le q p && nat_le p (q + length u)) text _ (Del p s) (Del q u)
     (λ t.
-    let b = both_true _ _ t in
+    let b = and_parts _ _ t in
     let low : q ≤ p = leb-true q p b.0 in
     let high : p ≤ q + length u = leb-true p (q + length u) b.1 in
     one_option _ _ (λ to e. del_parted text to p s q u low high e)

@@ -9,10 +9,7 @@ use Rattle.ot_units.specs.Text.{put_at, cut_at, part_at}
 use Rattle.ot_op.specs.Apply.{applied, applied_all, stands}
 use Rattle.ot_op.proofs.Applying.{applied_all-one}
 use Rattle.ot_op.specs.declared.comp.Comp.TheVariants.{Ins, Del, Com}
-
-pub both_true : (a b : Bool) → (a && b) ≡ true → (a ≡ true) × (b ≡ true)
-both_true true b e = (refl, e)
-both_true false b e = cc
+use Rattle.std.proofs.lemmas.Bool.{and_parts}
 
 pub put_mid : (front part back : List ℕ) → put_at (front ++ back) (length front) part ≡ front ++ (part ++ back)
 put_mid front part back = rw (take-append_seam, drop-append_seam, append_assoc)
@@ -95,7 +92,7 @@ pub record Stands (text : List ℕ) (at : ℕ) (part : List ℕ) : Type 0 where
 
 pub stands_cut : (text : List ℕ) (at : ℕ) (part : List ℕ) → stands text at part ≡ true → Stands text at part
 stands_cut text at part e =
-    let both = both_true _ _ e in
+    let both = and_parts _ _ e in
     let fits : at ≤ length text = leb-true at (length text) both.0 in
     let same : part ≡ part_at text at (length part) = (bytes_eq-Decides part _).0 both.1 in
     let rest : List ℕ = drop (length part) (drop at text) in

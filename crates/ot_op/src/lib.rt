@@ -8,6 +8,7 @@ mod comp;
 mod compose_ops;
 mod fault;
 mod invert_op;
+mod limits;
 mod op;
 #[cfg(test)]
 mod tests;
@@ -19,5 +20,6 @@ pub use comp::Comp;
 pub use compose_ops::{compose, compose_same};
 pub use fault::{ApplyFault, FormFault};
 pub use invert_op::{invert, invert_undoes};
+pub use limits::{MAX_COMPONENTS, MAX_OPERATION_UNITS, MAX_PLACE, MAX_TEXT_UNITS};
 pub use op::Op;
 pub use text_like::TextLike;

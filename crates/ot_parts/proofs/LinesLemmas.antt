@@ -4,6 +4,7 @@ use Rattle.std.proofs.lemmas.List.Elements.{All-nil, All-cons, All-head, All-tai
 use Rattle.std.proofs.lemmas.List.Splits.{slice_split_first, slice_split_none}
 use Rattle.std.proofs.lemmas.List.Sums.{prefix_len_passes}
 use Rattle.std.specs.List.{All, slice_split, onto_first, position, position_or_len}
+use Rattle.std.proofs.lemmas.Bool.{not-true}
 
 -- a part that an element goes in front of
 All-onto_first : {X : Type 0} (P : X → Type 0) (x : X) (parts : List (List X)) → P x → All (All P) parts → All (All P) (onto_first x parts)
@@ -20,15 +21,11 @@ pub All-slice_split : {X : Type 0} (p : X → Bool) (xs : List X) → All (All (
 All-slice_split p [] = All-cons (All (λ x. p x ≡ false)) [] [] (All-nil (λ x. p x ≡ false)) (All-nil (All (λ x. p x ≡ false)))
 All-slice_split p (x ∷ xs) = All-split_at p x (slice_split p xs) (p x) refl (All-slice_split p xs)
 
-is_false : (b : Bool) → not b ≡ true → b ≡ false
-is_false true negated = cc
-is_false false negated = refl
-
 -- where no element passes, the list is its only part
 pub slice_split-position_none : (p : ℕ → Bool) (xs : List ℕ) → position p xs ≡ None → slice_split p xs ≡ xs ∷ []
 slice_split-position_none p xs none =
     let reached : length xs ≤ position_or_len p xs = grind arith in
-    slice_split_none p xs (λ k d within. let passed : not (p (slice_index_or xs k d)) ≡ true = prefix_len_passes (λ x. not (p x)) xs k d (omega (arith, within, reached)) in is_false _ passed)
+    slice_split_none p xs (λ k d within. let passed : not (p (slice_index_or xs k d)) ≡ true = prefix_len_passes (λ x. not (p x)) xs k d (omega (arith, within, reached)) in not-true _ passed)
 
 -- the first part ends where the first element passes
 pub slice_split-position_some : (p : ℕ → Bool) (xs : List ℕ) (at : ℕ) → position p xs ≡ Some at → slice_split p xs ≡ take at xs ∷ slice_split p (drop (at + 1) xs)

@@ -4,23 +4,10 @@ use Rattle.std.specs.Option.{option_and_then, option_map}
 use Rattle.ot_op.specs.Apply.{applied, applied_all}
 use Rattle.ot_op.specs.Compose.{appended, composed}
 use Rattle.ot_op.specs.declared.comp.Comp.{Comp}
-use Rattle.ot_op.proofs.Applying.{applied_all-one}
+use Rattle.ot_op.proofs.Applying.{applied_all-one, First, first_of_all}
 use Rattle.ot_transform.specs.Crossing.{moved_component, Crossed, met, walked, after_meeting, crossed_by, crossed_within, crossed, inserts}
 use Rattle.ot_transform.proofs.Depth.{IfGiven, Keeps, Several, several_past_insert, walked_keeps, within_keeps, crossed_deep, inserts-append}
 use Rattle.ot_transform.proofs.Pairwise.{Converge}
-
--- the first component of a list that applies
-pub record First (text : List ℕ) (c : Comp) (cs : List Comp) (to : List ℕ) : Type 0 where
-  pub mid : List ℕ
-  pub here : applied text c ≡ Some mid
-  pub rest : applied_all mid cs ≡ Some to
-
-pub first_of_list : (text : List ℕ) (c : Comp) (cs : List Comp) (to : List ℕ) → applied_all text (c ∷ cs) ≡ Some to → First text c cs to
-first_of_list text c cs to e = go (applied text c) refl e
-  where
-    go : (o : Option (List ℕ)) → applied text c ≡ o → option_and_then (λ next. applied_all next cs) o ≡ Some to → First text c cs to
-    go None h f = cc
-    go (Some mid) h f = record { mid = mid; here = h; rest = f }
 
 -- two lists past each other, of texts `left` and `right`
 pub record Meets (given : Crossed) (left right : List ℕ) : Type 0 where
@@ -44,7 +31,7 @@ module _ (pairwise : Pairwise) (appends : Appends) where
   pub composed_does : (text mid to : List ℕ) (cs ds : List Comp) → applied_all text cs ≡ Some mid → applied_all mid ds ≡ Some to → applied_all text (composed cs ds) ≡ Some to
   composed_does text mid to cs [] h k = let same : mid ≡ to = cc in h ∙ ap (λ (x : List ℕ). Some x) same
   composed_does text mid to cs (d ∷ ds) h k =
-      let f : First mid d ds to = first_of_list mid d ds to k in
+      let f : First mid d ds to = first_of_all mid d ds to k in
       composed_does text f.mid to (appended cs d) ds (appends text mid f.mid cs d h f.here) f.rest
 
   abbrev pub Converges : ℕ → (List Comp → List Comp → Crossed) → Type 0
@@ -65,7 +52,7 @@ module _ (pairwise : Pairwise) (appends : Appends) where
       let same : at ≡ left = cc in
       record { both = (next, r ∷ []); to = to; is = refl; from_left = applied_all-one left r ∙ ap (λ (x : List ℕ). applied x r) (sym same) ∙ e; from_right = h }
   walked_converges k cross conv next r (l ∷ ls) start at to left few h e f =
-      let first : First at l ls left = first_of_list at l ls left f in
+      let first : First at l ls left = first_of_all at l ls left f in
       let c : Converge first.mid to l r = pairwise at first.mid to l r first.here e in
       let m : met next r l ≡ Some (composed next c.ls, c.rs) = rw (c.left_is, c.right_is) in
       let n : applied_all start (composed next c.ls) ≡ Some c.to = composed_does start to c.to next c.ls h c.from_right in
@@ -81,7 +68,7 @@ module _ (pairwise : Pairwise) (appends : Appends) where
       let same : at ≡ right = cc in
       record { both = (ls, done); to = left; is = refl; from_left = d; from_right = ap (λ (x : List ℕ). applied_all x ls) (sym same) ∙ l }
   crossed_by_converges k cross conv keeps ls done (c ∷ rs) base at left right few d l r =
-      let first : First at c rs right = first_of_list at c rs right r in
+      let first : First at c rs right = first_of_all at c rs right r in
       let w : Meets (walked cross [] c ls) left first.mid = walked_converges k cross conv [] c ls first.mid at first.mid left few refl first.here l in
       let kept : inserts w.both.0 ≤ 0 + inserts ls = given_at (λ (both : List Comp × List Comp). inserts both.0 ≤ 0 + inserts ls) (walked cross [] c ls) w.both w.is (walked_keeps cross keeps [] c ls) in
       let n : applied_all base (composed done w.both.1) ≡ Some w.to = composed_does base left w.to done w.both.1 d w.from_left in

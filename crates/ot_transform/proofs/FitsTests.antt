@@ -3,11 +3,10 @@ use Rattle.std.proofs.Common.{◌≡◌, ℕ, ◌+◌, ◌-◌, ◌^◌, ◌<◌
 use Rattle.std.specs.Prelude.{nat_lt, min}
 use Rattle.std.specs.List.{list_all}
 use Rattle.std.proofs.lemmas.List.{take_more}
-use Rattle.std.proofs.lemmas.Bool.{ltb-true, lt-ltb}
+use Rattle.std.proofs.lemmas.Bool.{ltb-true, lt-ltb, and_parts}
 use Rattle.ot_op.specs.Operation.{place}
 use Rattle.ot_op.specs.declared.comp.Comp.{Comp}
 use Rattle.ot_transform.specs.Room.{new_units, Room}
-use Rattle.ot_op.proofs.Pieces.{both_true}
 use Rattle.ot_transform.proofs.Rooms.{units-append}
 
 -- one component more
@@ -23,7 +22,7 @@ Most = 2 ^ 64 - 1
 pub room_tested : (cs : List Comp) (n : ℕ) → list_all (λ c. nat_lt (place c + min n Most) (2 ^ 32)) cs ≡ true → Room n cs
 room_tested [] n e = tt
 room_tested (c ∷ cs) n e =
-    let both = both_true _ _ e in
+    let both = and_parts _ _ e in
     let here : place c + min n Most < 2 ^ 32 = ltb-true _ _ both.0 in
     (omega arith, room_tested cs n both.1)
 

@@ -60,6 +60,16 @@ impl<T: Drop> Queue<T> {
         self.waiting.reserve(1)
     }
 
+    /// Makes room for `n` more items, where there is less. The only error is want of memory.
+    pub fn reserve_many(&mut self, n: usize) -> Result<(), AllocError>
+        ensures items { self.new.items ≡ self.old.items }
+        ensures room { OnOk result (n ≤ self.new.spare) }
+        ensures kept { self.old.spare ≤ self.new.spare }
+        ensures full { OnErr result (self.old.spare < n) }
+    {
+        self.waiting.reserve(n)
+    }
+
     /// Puts an item behind the others. Takes no memory: the room was made by [`Queue::reserve`].
     pub fn push(&mut self, item: T)
         requires { 0 < self.old.spare }

@@ -27,5 +27,11 @@ fn the_first_in_is_the_first_out(rt: HostRuntime) -> Result<(), Fail> {
     }
     assert_eq!(rt; queue.len(), 0);
     assert_eq!(rt; queue.pop(), None);
+
+    queue.reserve_many(2)?;
+    queue.push(11);
+    queue.push(12);
+    assert_eq!(rt; queue.pop(), Some(11));
+    assert_eq!(rt; queue.pop(), Some(12));
     Ok(())
 }

@@ -38,34 +38,13 @@ use Rattle.journal_laws.proofs.Updates.{update_new, Sends, Fresh, Again, sending
 use Rattle.journal_laws.proofs.Everything.{world}
 use Rattle.journal_laws.proofs.Unmade.{unmade_applied}
 use Rattle.journal_laws.proofs.Laws.{shows}
-use Rattle.journal_laws.proofs.Staying.{small}
+use Rattle.journal_laws.proofs.Staying.{small, all_in_get, firsts, first_short}
 use Rattle.journal_rules.proofs.Sizes as rules
 use Rattle.journal_rules.proofs.Sizes.{all_size, edits_least, comments_least, IsLightFlight}
 use Rattle.plain_journal.specs.Sizes.{IsLight, IsSized, AreSized}
 
--- ---- texts are short
-all_in_get : {A : Type 0} (P : A → Type 0) (xs : List A) (i : ℕ) (x : A) → slice_get xs i ≡ Some x → AllIn P xs → P x
-all_in_get P [] i x e a = absurd (cc)
-all_in_get P (y ∷ ys) zero x e a = let same : y ≡ x = cc in subst P same a.0
-all_in_get P (y ∷ ys) (suc i) x e a = all_in_get P ys i x e a.1
-
 abbrev IsShort : Making → Type 0
 IsShort m = length m.first ≤ longest
-
-firsts : (j : List Entry) → IsLegal j → AllIn IsShort (makings j)
-firsts = by_last (λ j. AllIn IsShort (makings j)) (subst (AllIn IsShort) (sym makings-none) tt)
-    (λ h e legal may a. subst (AllIn IsShort) (sym (makings-push h e)) (all_in-append IsShort (makings h) (making_of e.act) a (by h e.seat e.act may)))
-  where
-    by : (h : List Entry) (seat : ℕ) (a : Act) → IsAllowed h seat a → AllIn IsShort (making_of a)
-    by h seat (Made doc name project first base) row = (row.short, tt)
-    by h seat _ row = tt
-
-first_short : (d : ℕ) (j : List Entry) → IsLegal j → length (first d j) ≤ longest
-first_short d j legal = go (slice_get (makings j) d) refl
-  where
-    go : (o : Option Making) → slice_get (makings j) d ≡ o → length (first_in o) ≤ longest
-    go None e = omega arith
-    go (Some m) e = all_in_get IsShort (makings j) d m e (firsts j legal)
 
 short_next : (d : ℕ) (j : List Entry) (before : List Item) (x : Item) (here to : List ℕ) (rest : List (List Comp)) (it : IsItem d j before x) → replayed (first d j) (ops before) ≡ Some here
     → option_and_then (λ next. replayed next rest) (applied_all here x.op) ≡ Some to → replayed it.to rest ≡ Some to

@@ -25,12 +25,3 @@ replays_next text xs i x lt is = ap (λ l. rules.replayed text (operations l)) (
 
 pub take_least : {A : Type 0} (n k : ℕ) (xs : List A) → k ≡ min n (length xs) → take k xs ≡ take n xs
 take_least n k xs is = ap (λ m. take m xs) is ∙ take_min n xs
-
--- where the first component of the rest doesn't apply, the whole doesn't
-pub failing_none : (text left : List ℕ) (op : List Comp) (k : ℕ) → IsFailing text op left k → applied_all text op ≡ None
-failing_none text left op k fails =
-    let cut : op ≡ take k op ++ (take 1 (drop k op) ++ drop 1 (drop k op)) = sym (take-append-drop k op) ∙ ap (λ l. take k op ++ l) (sym (take-append-drop 1 (drop k op))) in
-    let rest : applied_all left (take 1 (drop k op) ++ drop 1 (drop k op)) ≡ None =
-    applied_all-append left (take 1 (drop k op)) (drop 1 (drop k op)) ∙ ap (λ o. option_and_then (λ next. applied_all next (drop 1 (drop k op))) o) fails.2 in
-    ap (applied_all text) cut ∙ applied_all-append text (take k op) (take 1 (drop k op) ++ drop 1 (drop k op))
-    ∙ ap (λ o. option_and_then (λ next. applied_all next (take 1 (drop k op) ++ drop 1 (drop k op))) o) fails.1 ∙ rest

@@ -16,12 +16,11 @@ use crate::clients::{Client, client_of};
 use crate::crossing::applied;
 use crate::documents::{is_made, version};
 use crate::keeping::is_cached;
-use crate::limits::{FIRST_SOURCE, GREATEST_AGE, MOST_COMPONENTS, MOST_ENTRIES, MOST_UNITS};
 use crate::locks::clock;
 use crate::mail::{brief_of, mail_of};
-use journal_entries::{Brief, Entry, Update};
+use journal_entries::{Brief, Entry, FIRST_SOURCE, MAX_AGE, MAX_ENTRIES, Update};
 use journal_rules::ClientState;
-use ot_op::{Comp, Op, append};
+use ot_op::{Comp, MAX_COMPONENTS, MAX_OPERATION_UNITS, Op, append};
 use ot_units::Name;
 use std::alloc::{AllocError, Global};
 
@@ -57,7 +56,7 @@ fn has_user(user: &Option<Name>, name: &Name) -> bool
 fn is_recent(have: u64, since: u64) -> bool
     ensures { IsTrue result ↔ (have ≤ since + greatest_age) }
 {
-    have.saturating_sub(since) <= GREATEST_AGE
+    have.saturating_sub(since) <= MAX_AGE
 }
 
 pub(crate) fn is_left(now: &Client) -> bool
@@ -141,7 +140,7 @@ fn appended(alloc: Global, op: &Op, comp: &Comp) -> Result<Op, AllocError>
 fn is_within_limits(op: &Op) -> bool
     ensures { IsTrue result ↔ ((length op.now ≤ most_components) × (rules.units op.now ≤ most_units)) }
 {
-    op.comps().len() <= MOST_COMPONENTS && units(op.comps()) <= MOST_UNITS
+    op.comps().len() as u64 <= MAX_COMPONENTS && units(op.comps()) <= MAX_OPERATION_UNITS
 }
 
 pub(crate) fn is_edit(
@@ -219,7 +218,7 @@ fn is_sent_by(
     requires { rules.IsLegal before.now }
     ensures { IfOk result (λ b. IsTrue b ↔ (clients.sending client (clients.client client before.now) (clock_lem before.now) ≡ Some update.now)) }
 {
-    prove!(before.len() <= MOST_ENTRIES);
+    prove!(before.len() as u64 <= MAX_ENTRIES);
     let now = client_of(alloc, before, client)?;
     Ok(is_sent(client, &now, clock(before), update))
 }

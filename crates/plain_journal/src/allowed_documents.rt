@@ -7,10 +7,10 @@ ghost use Rattle.journal_rules.specs.Legal as rules;
 
 use crate::documents::{is_made, made_count, version};
 use crate::keeping::{are_faults_within, is_cached, kept};
-use crate::limits::{HIGHEST_BASE, LONGEST_DOCUMENT};
 use crate::locks::holds;
 use crate::sent::waiting;
-use journal_entries::{Act, Entry};
+use journal_entries::{Act, Entry, MAX_BASE};
+use ot_op::MAX_TEXT_UNITS;
 use ot_units::{Name, Units};
 use std::alloc::{AllocError, Global};
 
@@ -35,8 +35,8 @@ pub(crate) fn is_making(before: &[Entry], doc: u32, name: &Name, first: &Units, 
 {
     u64::from(doc) == made_count(before)
         && !is_named(before, name)
-        && first.len() <= LONGEST_DOCUMENT
-        && base <= HIGHEST_BASE
+        && first.len() <= MAX_TEXT_UNITS
+        && base <= MAX_BASE
 }
 
 fn holds_if_any(before: &[Entry], seat: u32, doc: u32, token: Option<u64>) -> bool

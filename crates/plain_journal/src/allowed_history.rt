@@ -11,8 +11,7 @@ ghost use Rattle.plain_journal.specs.Answers.{making_as};
 ghost use Rattle.plain_journal.specs.Parts.{history_count};
 
 use crate::documents::{Making, making_at, update_at};
-use crate::limits::MOST_ENTRIES;
-use journal_entries::{Act, Entry, Outcome, Update};
+use journal_entries::{Act, Entry, MAX_ENTRIES, Outcome, Update};
 use ot_units::Name;
 use std::alloc::{AllocError, Global};
 
@@ -56,7 +55,7 @@ fn left_after(
     ensures left { IfOk result (λ n. n + sum (history.handed_by project.now act.now) ≡ left + length (history.history_by project.now before.now act.now)) }
     ensures few { IfOk result (λ n. n ≤ length before.now + 1) }
 {
-    prove!(before.len() <= MOST_ENTRIES);
+    prove!(before.len() as u64 <= MAX_ENTRIES);
     match act {
         Act::Committed {
             doc,

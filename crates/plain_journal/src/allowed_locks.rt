@@ -6,16 +6,15 @@ ghost use Rattle.journal_rules.specs.Legal as rules;
 ghost use Rattle.journal_rules.specs.Locks.{clock as clock_lem};
 
 use crate::documents::is_made;
-use crate::limits::CLOCK_END;
 use crate::locks::{clock, is_expired, is_held, next_token};
 use expiring_lock::LOCK_LIFE;
-use journal_entries::{Act, Entry};
+use journal_entries::{Act, Entry, MAX_MOMENT};
 
 pub(crate) fn may_tick(before: &[Entry], ms: u64) -> bool
     requires { rules.IsLegal before.now }
     ensures { IsTrue result ↔ (clock_lem before.now + ms ≤ rules.clock_end) }
 {
-    ms <= CLOCK_END - clock(before)
+    ms <= MAX_MOMENT - clock(before)
 }
 
 pub(crate) fn is_acquiring(before: &[Entry], doc: u32, token: u64, until: u64) -> bool

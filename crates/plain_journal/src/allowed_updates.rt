@@ -2,6 +2,7 @@
 
 ghost use Rattle.std.specs.Prelude.{◌≡◌, ◌↔◌, ◌≤◌, ◌⊎◌, IsTrue, IfOk, Some, All, sum_by, min, ◌^◌, ◌-◌};
 ghost use Rattle.ot_op.specs.Operation.{place, units_of};
+ghost use Rattle.ot_op.specs.declared.limits.TheConstants.{MAX_PLACE};
 ghost use Rattle.journal_rules.specs.Legal as rules;
 ghost use Rattle.journal_rules.specs.Documents.{waiting as waiting_lem};
 ghost use Rattle.journal_rules.specs.Keeping.{loading, FailedUnder};
@@ -10,11 +11,10 @@ ghost use Rattle.plain_journal.specs.Parts.{IsFirst};
 use crate::deciding::decided_on;
 use crate::documents::is_made;
 use crate::keeping::{Loading, is_cached, last_loading};
-use crate::limits::{GREATEST_PLACE, GREATEST_RAW_SOURCE, MOST_COMPONENTS, MOST_UNITS};
 use crate::locks::{clock, holds, is_used};
 use crate::sent::waiting;
-use journal_entries::{Cause, Entry, Outcome, Update};
-use ot_op::{Comp, Op};
+use journal_entries::{Cause, Entry, MAX_RAW_SOURCE, Outcome, Update};
+use ot_op::{Comp, MAX_COMPONENTS, MAX_OPERATION_UNITS, MAX_PLACE, Op};
 use std::alloc::{AllocError, Global};
 
 /// How many units the texts of an operation have, 2^64 - 1 where there are more.
@@ -37,9 +37,9 @@ fn units_in(comp: &Comp) -> u64
 }
 
 fn are_in_reach(comps: &[Comp]) -> bool
-    ensures { IsTrue result ↔ All (λ c. place c ≤ 1000000000) comps.now }
+    ensures { IsTrue result ↔ All (λ c. place c ≤ MAX_PLACE) comps.now }
 {
-    comps.iter().all(|comp| place_of(comp) <= GREATEST_PLACE)
+    comps.iter().all(|comp| place_of(comp) <= MAX_PLACE)
 }
 
 pub(crate) fn place_of(comp: &Comp) -> u32
@@ -54,7 +54,9 @@ fn is_raw(op: &Op) -> bool
     ensures { IsTrue result ↔ rules.IsRaw op.now }
 {
     let comps = op.comps();
-    comps.len() <= MOST_COMPONENTS && units(comps) <= MOST_UNITS && are_in_reach(comps)
+    comps.len() as u64 <= MAX_COMPONENTS
+        && units(comps) <= MAX_OPERATION_UNITS
+        && are_in_reach(comps)
 }
 
 pub(crate) fn is_raw_update(before: &[Entry], update: &Update) -> bool
@@ -63,7 +65,7 @@ pub(crate) fn is_raw_update(before: &[Entry], update: &Update) -> bool
 {
     is_made(before, update.doc)
         && update.number == 0
-        && update.source <= GREATEST_RAW_SOURCE
+        && update.source <= MAX_RAW_SOURCE
         && update.ms == clock(before)
         && is_raw(&update.op)
 }

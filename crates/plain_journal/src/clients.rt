@@ -11,10 +11,9 @@ ghost use Rattle.plain_journal.specs.Crossing.{IsAtEase, IsFirstSized, IsLow};
 use crate::crossing::applied;
 use crate::delivering::{caught_up, delivered, is_alive};
 use crate::documents::{Item, applied_list, base};
-use crate::limits::MOST_ENTRIES;
 use crate::mail::mail_of;
 use crate::texts::text_at;
-use journal_entries::{Act, Entry, Msg, Sources};
+use journal_entries::{Act, Entry, MAX_ENTRIES, Msg, Sources};
 use journal_rules::ClientState;
 use ot_op::{Comp, Op, append};
 use ot_units::{Name, Units};
@@ -81,7 +80,7 @@ fn client_by(
     requires is { client_as now ≡ rules.client client before.now }
     ensures { IfOk result (λ next. client_as next ≡ rules.client_by client before.now entry.now.act (client_as now)) }
 {
-    prove!(before.len() <= MOST_ENTRIES);
+    prove!(before.len() as u64 <= MAX_ENTRIES);
     match &entry.act {
         Act::Joined {
             client: joined,

@@ -12,10 +12,9 @@ ghost use Rattle.plain_journal.specs.Answers.{operations, passed_as, scan_as};
 ghost use Rattle.plain_journal.specs.Parts.{HasRoom};
 
 use crate::documents::{Item, applied_list, base, update_at, version};
-use crate::limits::{GREATEST_AGE, LONGEST_DOCUMENT};
 use crate::texts::text;
-use journal_entries::{Cause, Entry, Outcome, Update};
-use ot_op::{ApplyFault, Op, apply};
+use journal_entries::{Cause, Entry, MAX_AGE, Outcome, Update};
+use ot_op::{ApplyFault, MAX_TEXT_UNITS, Op, apply};
 use ot_transform::cross;
 use ot_units::Units;
 use std::alloc::{AllocError, Global};
@@ -64,7 +63,7 @@ fn decided(
     if have < update.v {
         return Ok(Outcome::Refused(Cause::Future { have }));
     }
-    if update.v < first || have - update.v > GREATEST_AGE {
+    if update.v < first || have - update.v > MAX_AGE {
         return Ok(Outcome::Refused(Cause::TooOld { have }));
     }
     let items = applied_list(alloc, journal, doc)?;
@@ -107,7 +106,7 @@ fn fitted(have: u64, op: Op, here: Option<Units>) -> Result<Outcome, AllocError>
         Err(ApplyFault::Memory) => return Err(AllocError),
     }
     let len = text.len();
-    if len > LONGEST_DOCUMENT {
+    if len > MAX_TEXT_UNITS {
         return Ok(Outcome::Refused(Cause::TooLong { len: len as u64 }));
     }
     Ok(Outcome::Applied { v: have, op })

@@ -13,12 +13,12 @@ use crate::allowed_clients::{is_joined, is_left};
 use crate::clients::client_of;
 use crate::documents::{made_count, version};
 use crate::keeping::{is_cached, kept};
-use crate::limits::{GREATEST_AGE, MOST_COMPONENTS, MOST_UNITS};
 use crate::locks::{is_expired, is_released, last_acquiring, last_token};
 use crate::mail::mail_of;
 use crate::sent::waiting;
 use expiring_lock::{Busy, Stale};
-use journal_entries::{Act, Entry, Why};
+use journal_entries::{Act, Entry, MAX_AGE, Why};
+use ot_op::{MAX_COMPONENTS, MAX_OPERATION_UNITS};
 use std::alloc::{AllocError, Global};
 
 // Whether a document is held under this token, which has not expired.
@@ -139,7 +139,7 @@ fn is_too_old(alloc: Global, before: &[Entry], client: u32, have: u64) -> Result
 {
     let now = client_of(alloc, before, client)?;
     let at = version(alloc, before, now.doc)?;
-    Ok(is_left(&now) && have == at && have.saturating_sub(now.version) > GREATEST_AGE)
+    Ok(is_left(&now) && have == at && have.saturating_sub(now.version) > MAX_AGE)
 }
 
 fn is_past_end(alloc: Global, before: &[Entry], client: u32, len: u64) -> Result<bool, AllocError>
@@ -161,7 +161,7 @@ fn is_full(
     ensures { IfOk result (λ b. IsTrue b ↔ rules.IsFull before.now client comps units) }
 {
     let now = client_of(alloc, before, client)?;
-    Ok(is_joined(&now) && (comps > MOST_COMPONENTS as u64 || units > MOST_UNITS))
+    Ok(is_joined(&now) && (comps > MAX_COMPONENTS || units > MAX_OPERATION_UNITS))
 }
 
 fn is_in_flight(alloc: Global, before: &[Entry], client: u32) -> Result<bool, AllocError>

@@ -12,10 +12,9 @@ use crate::allowed_updates::place_of;
 use crate::clients::Client;
 use crate::crossing::{Shift, shifted};
 use crate::documents::Item;
-use crate::limits::{GREATEST_PLACE, LONGEST_CLIENT};
-use journal_entries::{Msg, Sources};
+use journal_entries::{MAX_CLIENT_UNITS, Msg, Sources};
 use journal_rules::ClientState;
-use ot_op::Op;
+use ot_op::{MAX_PLACE, Op};
 use std::alloc::{AllocError, Global};
 
 fn stale(client: Client) -> Client
@@ -31,7 +30,7 @@ fn stale(client: Client) -> Client
 fn bounded(client: Client) -> Client
     ensures { client_as result ≡ rules.bounded (client_as client) }
 {
-    if client.text.len() > LONGEST_CLIENT {
+    if client.text.len() > MAX_CLIENT_UNITS {
         stale(client)
     } else {
         client
@@ -54,9 +53,7 @@ fn landed(alloc: Global, client: Client) -> Client
 fn do_places_fit(op: &Op) -> bool
     ensures { result ≡ rules.places_fit op.now }
 {
-    op.comps()
-        .iter()
-        .all(|comp| place_of(comp) <= GREATEST_PLACE)
+    op.comps().iter().all(|comp| place_of(comp) <= MAX_PLACE)
 }
 
 fn does_flight_fit(flight: &Option<Op>) -> bool

@@ -15,7 +15,6 @@ mod delivering;
 mod documents;
 mod keeping;
 mod legal;
-mod limits;
 mod locks;
 mod mail;
 #[cfg(test)]

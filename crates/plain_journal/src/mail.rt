@@ -9,8 +9,7 @@ ghost use Rattle.plain_journal.specs.Parts.{posted};
 ghost use Rattle.plain_journal.specs.declared.mail.Outbox.{Outbox};
 
 use crate::documents::{push_found, update_at};
-use crate::limits::MOST_ENTRIES;
-use journal_entries::{Act, Brief, Entry, Msg, Outcome, Update};
+use journal_entries::{Act, Brief, Entry, MAX_ENTRIES, Msg, Outcome, Update};
 use std::alloc::{AllocError, Global};
 
 /// Since a client joined: its document and source, what was posted to it, and how much of that it got.
@@ -78,7 +77,7 @@ fn one_got(before: &[Entry], now: Option<Outbox>) -> Option<Outbox>
     ensures value { option_map outbox_as result ≡ option_map rules.one_got (option_map outbox_as now) }
     ensures few { IfSome result (λ outbox. outbox.got ≤ length before.now + 1) }
 {
-    prove!(before.len() <= MOST_ENTRIES);
+    prove!(before.len() as u64 <= MAX_ENTRIES);
     match now {
         Some(outbox) => Some(Outbox {
             got: outbox.got + 1,

@@ -5,6 +5,7 @@ use Rattle.std.proofs.lemmas.Bool.{cases_Bool}
 use Rattle.ranges_tracker.specs.Cells.{Mark, Live, same_mark, mark_at, exchanged, new_lives}
 use Rattle.ranges_tracker.specs.WellFormed.{OnLive, TogetherLives}
 use Rattle.ranges_tracker.proofs.Packing.{same_mark_is, same_mark_self}
+use Rattle.std.proofs.lemmas.Option.{same_Some}
 
 pub on_left : (m : Mark) (xs ys : List Live) → OnLive m xs → OnLive m (xs ++ ys)
 on_left m [] ys h = absurd h
@@ -33,9 +34,6 @@ on_new m [] by h = absurd h
 on_new m (u ∷ us) by (inl e) = e
 on_new m (u ∷ us) by (inr h) = on_new m us by h
 
-pub same_some : (m n : Mark) → Some m ≡ Some n → m ≡ n
-same_some m n e = cc
-
 -- a mark exchanged
 pub exchange_hit : (old new : Mark) → exchanged old new (Some old) ≡ Some new
 exchange_hit old new = ap (λ (b : Bool). if b then Some new else Some old) (same_mark_self old)
@@ -59,10 +57,10 @@ exchange_one old new m (Some n) ls u e = go (cases_Bool (same_mark n old))
     go (inl t) =
         let is : n ≡ old = same_mark_is n old t in
         let made : Some new ≡ Some m = sym (ap (λ (b : Bool). if b then Some new else Some n) t) ∙ e in
-        inr (sym (same_some new m made), inl (ap (λ (x : Mark). Some x) is))
+        inr (sym (same_Some new m made), inl (ap (λ (x : Mark). Some x) is))
     go (inr f) =
         let made : Some n ≡ Some m = sym (ap (λ (b : Bool). if b then Some new else Some n) f) ∙ e in
-        let is : n ≡ m = same_some n m made in
+        let is : n ≡ m = same_Some n m made in
         inl (inl made, λ s. let t : same_mark n old ≡ true = ap (λ (x : Mark). same_mark x old) (is ∙ s) ∙ same_mark_self old in cc)
 
 abbrev pub swapped : Mark → Mark → List Live → List Live
@@ -111,10 +109,10 @@ swapped_together old new (l ∷ ls) free h = (follow l.mark refl, swapped_togeth
     by_test : (n m : Mark) → l.mark ≡ Some n → exchanged old new (Some n) ≡ Some m → (same_mark n old ≡ true) ⊎ (same_mark n old ≡ false) → (mark_at (swapped old new ls) 0 ≡ Some m) ⊎ (OnLive m (swapped old new ls) → ⊥)
     by_test n m e made (inl t) =
         let is : n ≡ old = same_mark_is n old t in
-        let to : new ≡ m = same_some new m (sym (ap (λ (b : Bool). if b then Some new else Some n) t) ∙ made) in
+        let to : new ≡ m = same_Some new m (sym (ap (λ (b : Bool). if b then Some new else Some n) t) ∙ made) in
         subst (λ (x : Mark). (mark_at (swapped old new ls) 0 ≡ Some x) ⊎ (OnLive x (swapped old new ls) → ⊥)) to (of_old (e ∙ ap (λ (x : Mark). Some x) is))
     by_test n m e made (inr f) =
-        let to : n ≡ m = same_some n m (sym (ap (λ (b : Bool). if b then Some new else Some n) f) ∙ made) in
+        let to : n ≡ m = same_Some n m (sym (ap (λ (b : Bool). if b then Some new else Some n) f) ∙ made) in
         subst (λ (x : Mark). (mark_at (swapped old new ls) 0 ≡ Some x) ⊎ (OnLive x (swapped old new ls) → ⊥)) to
         (of_other n e (λ s. let t : same_mark n old ≡ true = ap (λ (x : Mark). same_mark x old) s ∙ same_mark_self old in cc))
 

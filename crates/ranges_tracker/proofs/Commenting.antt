@@ -8,21 +8,7 @@ use Rattle.ot_units.specs.Text.{put_at, cut_at}
 use Rattle.ranges_tracker.specs.Cells.{Thread, raised, squashed}
 use Rattle.ranges_tracker.specs.declared.comment.Comment.{Comment}
 use Rattle.ranges_tracker.specs.Commented.{comment_of, comment_with, comment_without}
-
--- one list in two ways: the longer front begins with the shorter one
-record Nested (long short back rest : List ℕ) : Type 0 where
-  pub mid : List ℕ
-  pub long_is : long ≡ short ++ mid
-  pub back_is : back ≡ mid ++ rest
-
-nested : (short back long rest : List ℕ) → short ++ back ≡ long ++ rest → length short ≤ length long → Nested long short back rest
-nested [] back long rest e h = record { mid = long; long_is = refl; back_is = e }
-nested (x ∷ xs) back [] rest e h = absurd (omega arith)
-nested (x ∷ xs) back (y ∷ ys) rest e h =
-    let same : x ≡ y = cc in
-    let tails : xs ++ back ≡ ys ++ rest = cc in
-    let n : Nested ys xs back rest = nested xs back ys rest tails (omega arith) in
-    record { mid = n.mid; long_is = ap₂ (λ (a : ℕ) (r : List ℕ). a ∷ r) (sym same) n.long_is; back_is = n.back_is }
+use Rattle.ot_op.proofs.Pieces.{Nested, nested}
 
 pub part_is : (t a w b : List ℕ) (at n : ℕ) → t ≡ a ++ (w ++ b) → at ≡ length a → n ≡ length w → take n (drop at t) ≡ w
 part_is t a w b at n e f g = ap (λ (x : List ℕ). take n (drop at x)) e ∙ ap₂ (λ (x y : ℕ). take x (drop y (a ++ (w ++ b)))) g f ∙ ap (take (length w)) (drop-append_seam a (w ++ b)) ∙ take-append_seam w b
@@ -140,7 +126,7 @@ thread_without at n t = record { thread = t.thread; from = squashed at n t.from;
 squash_low : (at n g : ℕ) → g ≤ at → squashed at n g ≡ g
 squash_low at n g h = ⊎_elim {C = squashed at n g ≡ g} (λ lt. rw (lt-ltb g at lt) refl) (λ ge. rw (le-ltb g at ge, le-leb g (at + n) (omega arith)) (omega arith)) (cases_lt g at)
 
-squash_mid : (at n g : ℕ) → at ≤ g → g ≤ at + n → squashed at n g ≡ at
+pub squash_mid : (at n g : ℕ) → at ≤ g → g ≤ at + n → squashed at n g ≡ at
 squash_mid at n g h k = rw (le-ltb g at h, le-leb g (at + n) k) refl
 
 squash_high : (at n g : ℕ) → at + n ≤ g → squashed at n g ≡ g - n

@@ -25,8 +25,9 @@ use Rattle.ranges_tracker.proofs.Packing.{touch_met, touch_apart}
 use Rattle.ranges_tracker.proofs.Commenting.{shown_on}
 use Rattle.ranges_tracker.proofs.Stepping.{if_some, Stands, stands_of, Same, step_is}
 use Rattle.ranges_tracker.proofs.Keeping.{keep_step, inserted_length, deleted_length}
-use Rattle.ranges_tracker.proofs.Folding.{text_step, First, first_of_all}
+use Rattle.ranges_tracker.proofs.Folding.{text_step}
 use Rattle.ranges_tracker.proofs.Versions.{at_steady, in_steady}
+use Rattle.ot_op.proofs.Applying.{First, first_of_all}
 
 abbrev pub AtMost : ℕ → List Change → Type 0
 AtMost m [] = Unit {0}

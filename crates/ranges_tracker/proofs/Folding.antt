@@ -14,6 +14,7 @@ use Rattle.ranges_tracker.specs.Ranged.{Ranged, ranges_all}
 use Rattle.ranges_tracker.specs.Steady.{Steady, IsStepsOf}
 use Rattle.ranges_tracker.proofs.Stepping.{if_some, text_inserted, text_deleted, Same, step_is}
 use Rattle.ranges_tracker.proofs.Keeping.{keep_step}
+use Rattle.ot_op.proofs.Applying.{First, first_of_all}
 
 -- the live cells after a step are the text after the component
 pub text_step : (row : Row) (comp : Comp) (stamp : Stamp) (k : ℕ) (next : List ℕ) → applied (text_of row.lives) comp ≡ Some next → text_of (step row comp stamp k).row.lives ≡ next
@@ -25,19 +26,6 @@ text_step row (Com at part thread) stamp k next e = (if_some (stands (text_of ro
 
 abbrev pub shown_steps : Stepped → Ranged
 shown_steps s = record { ranges = shown s.row; marks = s.marks }
-
--- the first component applies, and the others to what it makes
-pub record First (text : List ℕ) (c : Comp) (cs : List Comp) (next : List ℕ) : Type 0 where
-  pub mid : List ℕ
-  pub here : applied text c ≡ Some mid
-  pub rest : applied_all mid cs ≡ Some next
-
-pub first_of_all : (text : List ℕ) (c : Comp) (cs : List Comp) (next : List ℕ) → applied_all text (c ∷ cs) ≡ Some next → First text c cs next
-first_of_all text c cs next e = go (applied text c) refl e
-  where
-    go : (o : Option (List ℕ)) → applied text c ≡ o → option_and_then (λ x. applied_all x cs) o ≡ Some next → First text c cs next
-    go None is h = cc
-    go (Some mid) is h = record { mid = mid; here = is; rest = h }
 
 pub steps_are : (cs : List Comp) (row : Row) (stamp : Stamp) (k : ℕ) (next : List ℕ) → Steady row stamp k → applied_all (text_of row.lives) cs ≡ Some next → ranges_all (shown row) cs stamp k ≡ shown_steps (steps row cs stamp k)
 steps_are [] row stamp k next s e = refl

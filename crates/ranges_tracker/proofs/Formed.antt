@@ -77,7 +77,7 @@ here_stands text c h e =
     let part : take (length c.text) (drop c.at text) ≡ c.text = part_is text h.front c.text h.rest c.at (length c.text) h.is (omega (arith, h.at_is)) refl in
     subst (λ (k : ChangeKind). StandsAs text k c.at c.text) (sym e) (stands_by text c.at c.text (omega (arith, h.at_is)) (sym part))
 
-of_each : (kind : ChangeKind) (cs : List Change) → Of kind cs → Each (λ (c : Change). c.kind ≡ kind) cs
+pub of_each : (kind : ChangeKind) (cs : List Change) → Of kind cs → Each (λ (c : Change). c.kind ≡ kind) cs
 of_each kind [] h = tt
 of_each kind (c ∷ cs) h = (h.0, of_each kind cs h.1)
 

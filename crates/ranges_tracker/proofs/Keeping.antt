@@ -66,7 +66,7 @@ same_length None stamp j ls = refl
 same_length (Some m) stamp j [] = refl
 same_length (Some m) stamp j (l ∷ ls) = ap (λ (n : ℕ). suc n) (same_length (Some m) stamp j ls)
 
-new_length : (us : List ℕ) (o : Option Mark) → length (new_lives us o) ≡ length us
+pub new_length : (us : List ℕ) (o : Option Mark) → length (new_lives us o) ≡ length us
 new_length [] o = refl
 new_length (u ∷ us) o = ap (λ (n : ℕ). suc n) (new_length us o)
 

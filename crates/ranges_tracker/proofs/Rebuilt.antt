@@ -25,7 +25,7 @@ use Rattle.ranges_tracker.proofs.Stepping.{Stands, stands_of}
 use Rattle.ranges_tracker.proofs.Marks.{same_id_turned, HasMark, lives_has, gone_has, meets_mark, lives_together, gone_together}
 use Rattle.ranges_tracker.proofs.Forms.{Each, Pairs, all_each, all_pairs, each_weaker, each_both, each_filter, pairs_filter}
 use Rattle.ranges_tracker.proofs.Walking.{over_past}
-use Rattle.ranges_tracker.proofs.Formed.{Here}
+use Rattle.ranges_tracker.proofs.Formed.{Here, of_each}
 
 -- inserts and deletes of changes in order
 keep_kind : (j : ChangeKind) (c : Change) (cs : List Change) → c.kind ≡ j → (k : ChangeKind) → filter (λ (x : Change). same_kind x.kind k) (c ∷ cs) ≡ (if same_kind j k then c ∷ filter (λ (x : Change). same_kind x.kind k) cs else filter (λ (x : Change). same_kind x.kind k) cs)
@@ -56,10 +56,6 @@ of_filter k (c ∷ cs) = go (cases_Bool (same_kind c.kind k)) (of_filter k cs)
     go (inl t) h = subst (λ (x : List Change). Of k x) (sym (ap (λ (b : Bool). if b then c ∷ filter (λ (x : Change). same_kind x.kind k) cs else filter (λ (x : Change). same_kind x.kind k) cs) t)) (same c.kind k t, h)
     go (inr f) h = subst (λ (x : List Change). Of k x) (sym (ap (λ (b : Bool). if b then c ∷ filter (λ (x : Change). same_kind x.kind k) cs else filter (λ (x : Change). same_kind x.kind k) cs) f)) h
 
-each_of : (k : ChangeKind) (cs : List Change) → Of k cs → Each (λ (c : Change). c.kind ≡ k) cs
-each_of k [] h = tt
-each_of k (c ∷ cs) h = (h.0, each_of k cs h.1)
-
 behind_is : (c d : Change) (j k : ChangeKind) → c.kind ≡ j → d.kind ≡ k → IsBehind c d → first_behind j c.at (length c.text) k ≤ d.at
 behind_is c d j k e f h = subst (λ (x : ChangeKind). first_behind j c.at (length c.text) x ≤ d.at) f (subst (λ (x : ChangeKind). first_behind x c.at (length c.text) d.kind ≤ d.at) e h)
 
@@ -68,7 +64,7 @@ split_merged [] h = refl
 split_merged (c ∷ cs) h = go c.kind refl (split_merged cs h.1)
   where
     later : (k : ChangeKind) → Each (λ (d : Change). IsBehind c d × (d.kind ≡ k)) (filter (λ (x : Change). same_kind x.kind k) cs)
-    later k = each_both (IsBehind c) (λ (d : Change). d.kind ≡ k) (λ (d : Change). IsBehind c d × (d.kind ≡ k)) (filter (λ (x : Change). same_kind x.kind k) cs) (λ d x y. (x, y)) (each_filter (IsBehind c) (λ (x : Change). same_kind x.kind k) cs h.0) (each_of k (filter (λ (x : Change). same_kind x.kind k) cs) (of_filter k cs))
+    later k = each_both (IsBehind c) (λ (d : Change). d.kind ≡ k) (λ (d : Change). IsBehind c d × (d.kind ≡ k)) (filter (λ (x : Change). same_kind x.kind k) cs) (λ d x y. (x, y)) (each_filter (IsBehind c) (λ (x : Change). same_kind x.kind k) cs h.0) (of_each k (filter (λ (x : Change). same_kind x.kind k) cs) (of_filter k cs))
 
     go : (j : ChangeKind) → c.kind ≡ j → merged (inserts_of cs) (deletes_of cs) ≡ cs → merged (inserts_of (c ∷ cs)) (deletes_of (c ∷ cs)) ≡ c ∷ cs
     go Deleted e rest =
@@ -82,11 +78,11 @@ split_merged (c ∷ cs) h = go c.kind refl (split_merged cs h.1)
 
 lined_of : (a : ℕ) (is : List Change) → Each (λ (c : Change). a ≤ c.at) is → Pairs IsBehind is → Of Inserted is → Each (λ (c : Change). 0 < length c.text) is → Lined a is
 lined_of a [] h p o f = tt
-lined_of a (c ∷ cs) h p o f = (h.0, f.0, lined_of (c.at + length c.text) cs (each_both (IsBehind c) (λ (d : Change). d.kind ≡ Inserted) (λ (d : Change). c.at + length c.text ≤ d.at) cs (λ d b e. behind_is c d Inserted Inserted o.0 e b) p.0 (each_of Inserted cs o.1)) p.1 o.1 f.1)
+lined_of a (c ∷ cs) h p o f = (h.0, f.0, lined_of (c.at + length c.text) cs (each_both (IsBehind c) (λ (d : Change). d.kind ≡ Inserted) (λ (d : Change). c.at + length c.text ≤ d.at) cs (λ d b e. behind_is c d Inserted Inserted o.0 e b) p.0 (of_each Inserted cs o.1)) p.1 o.1 f.1)
 
 rising_of : (a : ℕ) (ds : List Change) → Each (λ (c : Change). a ≤ c.at) ds → Pairs IsBehind ds → Of Deleted ds → Rising a ds
 rising_of a [] h p o = tt
-rising_of a (c ∷ cs) h p o = (h.0, rising_of c.at cs (each_both (IsBehind c) (λ (d : Change). d.kind ≡ Deleted) (λ (d : Change). c.at ≤ d.at) cs (λ d b e. behind_is c d Deleted Deleted o.0 e b) p.0 (each_of Deleted cs o.1)) p.1 o.1)
+rising_of a (c ∷ cs) h p o = (h.0, rising_of c.at cs (each_both (IsBehind c) (λ (d : Change). d.kind ≡ Deleted) (λ (d : Change). c.at ≤ d.at) cs (λ d b e. behind_is c d Deleted Deleted o.0 e b) p.0 (of_each Deleted cs o.1)) p.1 o.1)
 
 any_place : (cs : List Change) → Each (λ (c : Change). 0 ≤ c.at) cs
 any_place [] = tt
@@ -400,12 +396,12 @@ rebuilt text cs ms h =
     let lined : Lined 0 is = lined_of 0 is (any_place is) (pairs_filter IsBehind ins cs behind) oi (each_filter (λ (c : Change). 0 < length c.text) ins cs filled) in
     let rising : Rising 0 ds = rising_of 0 ds (any_place ds) (pairs_filter IsBehind del cs behind) od in
     record {
-      inserts = under_shown 0 text is (record { lined = lined; kinds = oi; here = each_both (StandsIn text) (λ (c : Change). c.kind ≡ Inserted) (Here 0 text) is (insert_here text) (each_filter (StandsIn text) ins cs standing) (each_of Inserted is oi); distinct = distinct_of is (pairs_filter IdsDiffer ins cs ids) });
+      inserts = under_shown 0 text is (record { lined = lined; kinds = oi; here = each_both (StandsIn text) (λ (c : Change). c.kind ≡ Inserted) (Here 0 text) is (insert_here text) (each_filter (StandsIn text) ins cs standing) (of_each Inserted is oi); distinct = distinct_of is (pairs_filter IdsDiffer ins cs ids) });
       deletes = gone_shown ds od (each_filter (λ (c : Change). 0 < length c.text) del cs filled) (distinct_of ds (pairs_filter IdsDiffer del cs ids));
       order = split_merged cs behind;
       comments = threads_shown text ms (all_each (λ (c : Comment). stands text c.at c.text ≡ true) ms h.comments);
       rises = gone_rises 0 ds rising;
-      gaps = gone_within (length text) ds (each_both (StandsIn text) (λ (c : Change). c.kind ≡ Deleted) (λ (c : Change). c.at ≤ length text) ds (λ c s e. subst (λ (k : ChangeKind). StandsAs text k c.at c.text) e s) (each_filter (StandsIn text) del cs standing) (each_of Deleted ds od));
+      gaps = gone_within (length text) ds (each_both (StandsIn text) (λ (c : Change). c.kind ≡ Deleted) (λ (c : Change). c.at ≤ length text) ds (λ c s e. subst (λ (k : ChangeKind). StandsAs text k c.at c.text) e s) (each_filter (StandsIn text) del cs standing) (of_each Deleted ds od));
     }
 
 well_rebuilt : (text : List ℕ) (cs : List Change) (ms : List Comment) → IsKeptForm (cs, ms) text → Rebuilt text cs ms → IsWellFormed (row_under text cs ms)

@@ -14,7 +14,7 @@ use Rattle.ranges_tracker.proofs.Bearing.{on_left, on_right, on_cases, on_first,
 abbrev pub ChosenFrom : Option Mark → Option Mark → Stamp → ℕ → Mark → ℕ → Type 0
 ChosenFrom before after stamp k m fresh = (before ≡ Some m) ⊎ ((after ≡ Some m) ⊎ ((m ≡ fresh_mark stamp k) × (fresh ≡ 1)))
 
-own_is : (user : List ℕ) (o : Option Mark) (m : Mark) → own user o ≡ Some m → o ≡ Some m
+pub own_is : (user : List ℕ) (o : Option Mark) (m : Mark) → own user o ≡ Some m → o ≡ Some m
 own_is user None m e = cc
 own_is user (Some n) m e = go (cases_Bool (bytes_eq user n.user))
   where
@@ -49,7 +49,7 @@ pub record TornFrom (before after new : Option Mark) (old : Mark) : Type 0 where
   pub after_is : after ≡ Some old
   pub other : new ≡ Some old → ⊥
 
-bears_is : (o : Option Mark) (m : Mark) → bears o m ≡ true → o ≡ Some m
+pub bears_is : (o : Option Mark) (m : Mark) → bears o m ≡ true → o ≡ Some m
 bears_is None m e = cc
 bears_is (Some n) m e = ap (λ (x : Mark). Some x) (same_mark_is n m e)
 

@@ -14,9 +14,11 @@ use Rattle.ranges_tracker.specs.WellFormed.{OnLive, OnRow, TogetherLives, IsWell
 use Rattle.ranges_tracker.specs.Agree.{Agree, IsSince}
 use Rattle.ranges_tracker.specs.Trackable.{AreRangesAt, AreRangesIn, IsTracked, IsOlder, IsFitStep, IsFit, StaysInStep, StayWithText}
 use Rattle.ranges_tracker.proofs.Forms.{Each, all_each, each_all}
-use Rattle.ranges_tracker.proofs.Folding.{text_step, First, first_of_all}
+use Rattle.ranges_tracker.proofs.Folding.{text_step}
 use Rattle.ranges_tracker.proofs.WellKept.{well_steady, step_keeps_it}
 use Rattle.ranges_tracker.proofs.Trackable.{cells_older, changes_older, each_below, each_older}
+use Rattle.std.proofs.lemmas.Option.{same_Some}
+use Rattle.ot_op.proofs.Applying.{First, first_of_all}
 
 -- ---- a row after an operation that applies to its text
 pub record Stepped (row : Row) (cs : List Comp) (stamp : Stamp) (k : ℕ) (next : List ℕ) : Type 0 where
@@ -24,11 +26,8 @@ pub record Stepped (row : Row) (cs : List Comp) (stamp : Stamp) (k : ℕ) (next 
   pub well : IsWellFormed (steps row cs stamp k).row
   pub before : IsBefore (steps row cs stamp k).row stamp (steps row cs stamp k).marks
 
-same_text : (a b : List ℕ) → Some a ≡ Some b → a ≡ b
-same_text a b e = cc
-
 pub keep_steps : (cs : List Comp) (row : Row) (stamp : Stamp) (k : ℕ) (next : List ℕ) → IsWellFormed row → IsBefore row stamp k → applied_all (text_of row.lives) cs ≡ Some next → Stepped row cs stamp k next
-keep_steps [] row stamp k next w b e = record { text_is = same_text (text_of row.lives) next e; well = w; before = b }
+keep_steps [] row stamp k next w b e = record { text_is = same_Some (text_of row.lives) next e; well = w; before = b }
 keep_steps (c ∷ cs) row stamp k next w b e =
     let f : First (text_of row.lives) c cs next = first_of_all (text_of row.lives) c cs next e in
     let text : text_of (step row c stamp k).row.lives ≡ f.mid = text_step row c stamp k f.mid f.here in

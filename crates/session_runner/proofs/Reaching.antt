@@ -12,11 +12,11 @@ use Rattle.ot_op.specs.Operation.{place}
 use Rattle.ot_op.specs.Apply.{applied, applied_all, stands}
 use Rattle.ot_transform.specs.Size.{edit_units, edit_units_in, Within}
 use Rattle.ot_transform.proofs.Rooms.{length-put}
-use Rattle.ranges_tracker.proofs.Folding.{First, first_of_all}
 use Rattle.ranges_tracker.proofs.Stepping.{if_some, Stands, stands_of}
 use Rattle.dup_check.specs.Snapshot.{IsSmall}
 use Rattle.journal_rules.specs.Deciding.{longest}
 use Rattle.session_runner.specs.Deciding.{farthest}
+use Rattle.ot_op.proofs.Applying.{First, first_of_all}
 
 -- a component applies within the text, which grows by what it puts in
 record Reach (text : List ℕ) (c : Comp) (next : List ℕ) : Type 0 where

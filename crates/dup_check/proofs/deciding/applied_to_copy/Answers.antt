@@ -1,7 +1,7 @@
 use Rattle.std.proofs.Common.{ap, sym, ◌∙◌}
 use Rattle.ot_op.specs.Apply.{applied_all}
-use Rattle.dup_check.proofs.Fitting.{failing_none}
 use Rattle.dup_check.proofs.deciding.applied_to_copy.Goals as goal
+use Rattle.ot_op.proofs.Applying.{failing_none}
 
 pub returns-in-Err-Mismatch : goal.returns-in-Err-Mismatch
 returns-in-Err-Mismatch c =

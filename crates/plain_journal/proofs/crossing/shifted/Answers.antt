@@ -5,9 +5,9 @@ use Rattle.ot_op.specs.Apply.{applied_all}
 use Rattle.journal_rules.specs.Client as rules
 use Rattle.ot_transform.specs.Crossing.{crossed}
 use Rattle.plain_journal.specs.Crossing.{IsFlown}
-use Rattle.plain_journal.proofs.Replays.{failing_none}
 use Rattle.plain_journal.proofs.Rooms.{fits_near, shift_fails}
 use Rattle.plain_journal.proofs.crossing.shifted.Goals as goal
+use Rattle.ot_op.proofs.Applying.{failing_none}
 
 pub cross-requires : goal.cross-requires
 cross-requires c =

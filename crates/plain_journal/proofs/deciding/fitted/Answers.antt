@@ -2,8 +2,8 @@ use Rattle.std.proofs.Common.{ap, sym, ◌∙◌}
 use Rattle.std.specs.Option.{option_and_then}
 use Rattle.ot_op.specs.Apply.{applied_all}
 use Rattle.journal_rules.specs.Deciding.{fitted}
-use Rattle.plain_journal.proofs.Replays.{failing_none}
 use Rattle.plain_journal.proofs.deciding.fitted.Goals as goal
+use Rattle.ot_op.proofs.Applying.{failing_none}
 
 pub returns-in-Err-Mismatch : goal.returns-in-Err-Mismatch
 returns-in-Err-Mismatch c =

@@ -3,8 +3,9 @@ use Rattle.std.specs.Option.{option_and_then}
 use Rattle.std.proofs.lemmas.List.{drop_all}
 use Rattle.journal_rules.specs.Documents as rules
 use Rattle.plain_journal.specs.Answers.{operations}
-use Rattle.plain_journal.proofs.Replays.{replays_next, failing_none}
+use Rattle.plain_journal.proofs.Replays.{replays_next}
 use Rattle.plain_journal.proofs.texts.replayed.Goals as goal
+use Rattle.ot_op.proofs.Applying.{failing_none}
 
 pub loop-item-init : goal.loop-item-init
 loop-item-init c = refl

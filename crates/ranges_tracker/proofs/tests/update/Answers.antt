@@ -2,9 +2,9 @@ use Rattle.std.proofs.Common.{◌≡◌, ◌∙◌, ◌∷◌, [], List, ℕ, re
 use Rattle.ot_op.specs.Apply.{applied, applied_all}
 use Rattle.ot_op.specs.declared.comp.Comp.{Comp}
 use Rattle.ranges_tracker.specs.Trackable.{IsFitStep, StaysInStep}
-use Rattle.ranges_tracker.proofs.Folding.{First, first_of_all}
 use Rattle.ranges_tracker.proofs.Versions.{at_in, fit_of, in_next}
 use Rattle.ranges_tracker.proofs.tests.update.Goals as goal
+use Rattle.ot_op.proofs.Applying.{First, first_of_all}
 
 -- an operation of one component
 applied_one : (text : List ℕ) (op : List Comp) (comp : Comp) (next : List ℕ) → op ≡ comp ∷ [] → applied_all text op ≡ Some next → applied text comp ≡ Some next
