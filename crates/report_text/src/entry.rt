@@ -5,9 +5,11 @@ ghost use Rattle.json_lines.specs.Object.{line_of};
 ghost use Rattle.report_text.specs.Entries.{entry_members};
 
 use crate::act::{act_name, put_fields};
+use crate::frequent::{Applied, acquired_line, applied_line, released_line, sent_line};
+use crate::heading::Heading;
 use crate::values::put_optional;
 use history_queue::Item;
-use journal_entries::Entry;
+use journal_entries::{Act, Entry, Outcome};
 use json_lines::Object;
 use std::alloc::{AllocError, Global};
 
@@ -15,6 +17,47 @@ use std::alloc::{AllocError, Global};
 /// a `handed` handed out, and none of another entry. An edit of the empty text, which no client
 /// makes, is shown as an operation without a component.
 pub fn entry_line(
+    alloc: Global,
+    board: u32,
+    n: u64,
+    entry: &Entry,
+    items: &[Item],
+) -> Result<Vec<u8>, AllocError>
+    ensures { IfOk result (λ bytes. bytes.items ≡ line_of (entry_members board n items.now entry.now)) }
+{
+    let heading = Heading {
+        board,
+        n,
+        seat: entry.seat,
+        line: entry.line,
+    };
+    match &entry.act {
+        Act::Sent { update } => sent_line(alloc, &heading, update),
+        Act::Committed {
+            doc,
+            token,
+            ticket,
+            outcome: Outcome::Applied { v, op },
+        } => {
+            let applied = Applied {
+                doc: *doc,
+                token: *token,
+                ticket: *ticket,
+                v: *v,
+                op,
+            };
+            applied_line(alloc, &heading, &applied)
+        }
+        Act::Acquired { doc, token, until } => {
+            acquired_line(alloc, &heading, *doc, *token, *until)
+        }
+        Act::Released { doc, token } => released_line(alloc, &heading, *doc, *token),
+        _ => object_line(alloc, board, n, entry, items),
+    }
+}
+
+// The same, by an object.
+fn object_line(
     alloc: Global,
     board: u32,
     n: u64,

@@ -4,7 +4,10 @@
 mod act;
 mod document_end;
 mod entry;
+mod frequent;
+mod heading;
 mod item;
+mod members;
 mod outcome;
 mod values;
 mod why;
