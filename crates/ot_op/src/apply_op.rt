@@ -41,6 +41,7 @@ fn apply_comp<T: TextLike>(text: &mut T, comp: &Comp) -> Result<bool, AllocError
             if !text.same_at(*at as usize, part.as_slice()) {
                 return Ok(false);
             }
+            text.ready(*at as usize, part.len())?;
             text.remove(*at as usize, part.len());
             Ok(true)
         }

@@ -13,6 +13,8 @@ use std::alloc::AllocError;
 pub trait TextLike {
     ghost text: { Self → List ℕ };
 
+    ghost can_remove: { Self → ℕ → ℕ → Type 0 };
+
     /// The number of units.
     fn len(&self) -> usize
         ensures { result ≡ length (text self.now) };
@@ -28,14 +30,23 @@ pub trait TextLike {
         ensures ok { OnOk result (text self.new ≡ put_at (text self.old) at other.now) }
         ensures err { OnErr result (text self.new ≡ text self.old) };
 
-    /// Takes `len` units out, from number `at` on.
-    fn remove(&mut self, at: usize, len: usize)
+    /// Makes a part ready to be removed. The memory that its removal needs is taken here.
+    fn ready(&mut self, at: usize, len: usize) -> Result<(), AllocError>
         requires { at + len ≤ length (text self.old) }
+        ensures ready { OnOk result (can_remove self.new at len) }
+        ensures same { text self.new ≡ text self.old };
+
+    /// Takes `len` units out, from number `at` on, which were made ready for it. It takes no memory.
+    fn remove(&mut self, at: usize, len: usize)
+        requires inside { at + len ≤ length (text self.old) }
+        requires ready { can_remove self.old at len }
         ensures { text self.new ≡ cut_at (text self.old) at len };
 }
 
 impl TextLike for Units {
     ghost text = { λ s. s };
+
+    ghost can_remove = { λ s at len. Unit {0} };
 
     fn len(&self) -> usize {
         self.len()
@@ -50,6 +61,10 @@ impl TextLike for Units {
 
     fn insert(&mut self, at: usize, other: &[u16]) -> Result<(), AllocError> {
         self.put_in(at, other)
+    }
+
+    fn ready(&mut self, _at: usize, _len: usize) -> Result<(), AllocError> {
+        Ok(())
     }
 
     fn remove(&mut self, at: usize, len: usize) {

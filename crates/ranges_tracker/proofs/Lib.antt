@@ -24,6 +24,7 @@ pub mod Forms
 pub mod Formed
 pub mod Rebuilt
 pub mod Joining
+pub mod Lengthening
 pub mod Trackable
 pub mod Versions
 pub mod Walking

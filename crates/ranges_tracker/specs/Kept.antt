@@ -1,5 +1,5 @@
 -- Kept documents.
-use Rattle.std.specs.Prelude.{ℕ, ◌^◌, ◌<◌, ◌≤◌, List, length}
+use Rattle.std.specs.Prelude.{ℕ, ◌^◌, ◌<◌, ◌≤◌, List, [], ◌∷◌, ◌++◌, length}
 use Rattle.std.specs.List.{All}
 use Rattle.ot_parts.specs.Lines.{IsLine}
 use Rattle.ranges_tracker.specs.declared.change.Change.{Change}
@@ -16,6 +16,12 @@ pub record Kept : Type 0 where
 pub record AreLines (lines : List (List ℕ)) : Type 0 where
   pub each : All IsLine lines
   pub some : 0 < length lines
+
+-- the last line grows by a part
+abbrev pub lengthened : List (List ℕ) → List ℕ → List (List ℕ)
+lengthened [] part = []
+lengthened (line ∷ []) part = (line ++ part) ∷ []
+lengthened (line ∷ next ∷ lines) part = line ∷ lengthened (next ∷ lines) part
 
 -- what can be kept
 pub record IsKept (text : List ℕ) (version : ℕ) (ranges : List Change × List Comment) : Type 0 where

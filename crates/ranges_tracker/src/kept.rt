@@ -54,6 +54,24 @@ impl KeptDoc {
         })
     }
 
+    /// The document with these lines, this version and these ranges.
+    pub fn of_lines(
+        alloc: Global,
+        lines: Lines,
+        version: u64,
+        ranges: &Ranges,
+    ) -> Result<KeptDoc, AllocError>
+        requires { IsKept (joined_lines lines) version ranges.now }
+        ensures { IfOk result (λ made. made ≡ record { lines = lines; version = version; ranges = ranges.now }) }
+    {
+        let ranges = ranges.copy(alloc)?;
+        Ok(KeptDoc {
+            lines,
+            version,
+            ranges,
+        })
+    }
+
     /// The lines of the text.
     pub fn lines(&self) -> &Lines
         ensures value { result.now ≡ self.now.lines }

@@ -1,9 +1,9 @@
 //! `Lines`, the lines of a text.
 
-ghost use Rattle.std.specs.Prelude.{◌≡◌, IfOk};
-ghost use Rattle.ot_parts.specs.Lines.{lines_of, joined_lines};
+ghost use Rattle.std.specs.Prelude.{◌≡◌, ◌++◌, ◌∷◌, [], IfOk, OnOk, OnErr};
+ghost use Rattle.ot_parts.specs.Lines.{lines_of, joined_lines, IsLine};
 ghost use Rattle.ot_units.specs.Text.{IsText};
-ghost use Rattle.ranges_tracker.specs.Kept.{AreLines};
+ghost use Rattle.ranges_tracker.specs.Kept.{AreLines, lengthened};
 
 use crate::texts::push_part;
 use ot_parts::line_parts;
@@ -32,6 +32,41 @@ impl Model for Lines {
 }
 
 impl Lines {
+    /// One empty line. The only error is want of memory.
+    pub fn start(alloc: Global) -> Result<Lines, AllocError>
+        ensures { IfOk result (λ made. made ≡ [] ∷ []) }
+    {
+        let mut lines = Vec::new(alloc);
+        lines.push(Units::from_slice(alloc, &[])?)?;
+        Ok(Lines { lines })
+    }
+
+    /// One more line, empty, behind the last. Where memory is wanting, nothing changes.
+    #[tactic(auto, using(crate::proofs::Lengthening::more_lines))]
+    pub fn next_line(&mut self) -> Result<(), AllocError>
+        ensures ok { OnOk result (self.new ≡ self.old ++ [] ∷ []) }
+        ensures err { OnErr result (self.new ≡ self.old) }
+    {
+        let alloc = *self.lines.allocator();
+        let line = Units::from_slice(alloc, &[])?;
+        self.lines.push(line)?;
+        Ok(())
+    }
+
+    /// Puts the UTF-16 code units of `part`, none of them a line feed, behind those of the last line.
+    /// Where memory is wanting, nothing changes.
+    #[tactic(auto, using(crate::proofs::Lengthening::last_lengthened, crate::proofs::Pushing::put_end, crate::proofs::Lengthening::lengthened_lines))]
+    pub fn extend(&mut self, part: &[u16]) -> Result<(), AllocError>
+        requires text { IsText part.now }
+        requires line { IsLine part.now }
+        ensures ok { OnOk result (self.new ≡ lengthened self.old part.now) }
+        ensures err { OnErr result (self.new ≡ self.old) }
+    {
+        let last = self.lines.len() - 1;
+        let end = self.lines[last].len();
+        self.lines[last].put_in(end, part)
+    }
+
     // The lines of a text.
     pub(crate) fn of(alloc: Global, text: &[u16]) -> Result<Lines, AllocError>
         requires { IsText text.now }
