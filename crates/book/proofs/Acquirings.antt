@@ -1,0 +1,126 @@
+-- Each acquiring is known by its token, and which tokens were used.
+use Rattle.std.proofs.Common.{◌≡◌, ◌⊎◌, inl, inr, ℕ, suc, ◌≤◌, ◌<◌, List, [], ◌∷◌, ◌++◌, length, Bool, true, false, ◌||◌, refl, sym, ap, ap₂, ◌∙◌, subst, arith, eqb, append-nil, append_assoc, All}
+use Rattle.std.specs.Prelude.{slice_get, Some, None}
+use Rattle.std.proofs.lemmas.Bool.{eqb-true}
+use Rattle.std.proofs.lemmas.List.Elements.{All-append}
+use Rattle.journal_entries.specs.declared.update.Outcome.{Outcome}
+use Rattle.journal_entries.specs.declared.act.Act.{Act}
+use Rattle.journal_entries.specs.declared.act.Act.TheVariants.{Committed}
+use Rattle.journal_entries.specs.declared.act.Entry.{Entry}
+use Rattle.journal_rules.specs.Documents.{is_in}
+use Rattle.journal_rules.specs.Locks.{Acquiring, acquiring_of, acquirings, last_acquiring, token_in, next_token, used_by, used}
+use Rattle.journal_rules.specs.Legal.{IsAllowed, IsLegal}
+use Rattle.journal_rules.proofs.Pushing.{acquirings-push, last_acquiring-push, last_acquiring-none, used-push, used-none}
+use Rattle.journal_rules.proofs.Legality.{Keeps, by_last, front, seam, legal_front, allowed_next}
+use Rattle.journal_rules.proofs.Lists.{some_same}
+use Rattle.journal_rules.proofs.Fencing.{token_bound}
+use Rattle.journal_rules.proofs.Waits.{all_map, all_none, all_one}
+use Rattle.book.specs.Looking.{IsNoCommit}
+use Rattle.book.proofs.Owed.{is_in-append}
+use Rattle.book.proofs.Tokens.{IsFresh, acquirings_more, last_or_new, not_in}
+use Rattle.dup_check.specs.declared.snapshot.Snapshot.{Snapshot}
+
+-- the acquiring of a token stands at its number
+pub record IsKnown (a : Acquiring) (j : List Entry) : Type 0 where
+  pub n : ℕ
+  pub token_is : a.token ≡ suc n
+  pub at : slice_get (acquirings j) n ≡ Some a
+
+pub known_on : (a : Acquiring) (j : List Entry) (e : Entry) → IsKnown a j → IsKnown a (j ++ e ∷ [])
+known_on a j e is = record {
+  n = is.n;
+  token_is = is.token_is;
+  at = ap (λ l. slice_get l is.n) (acquirings-push j e) ∙ front (acquirings j) (acquiring_of e.seat e.act) is.n a is.at;
+}
+
+pub known_more : (a : Acquiring) (more j : List Entry) → IsKnown a j → IsKnown a (j ++ more)
+known_more a [] j is = subst (λ (k : List Entry). IsKnown a k) (sym (append-nil j)) is
+known_more a (e ∷ es) j is = subst (λ (k : List Entry). IsKnown a k) (append_assoc j (e ∷ []) es) (known_more a es (j ++ e ∷ []) (known_on a j e is))
+
+-- so two of one token are the same
+pub known_same : (a b : Acquiring) (j : List Entry) → IsKnown a j → IsKnown b j → a.token ≡ b.token → a ≡ b
+known_same a b j x y same =
+    let s = x.token_is in
+    let t = y.token_is in
+    let n : x.n ≡ y.n = omega (arith, s, t, same) in
+    some_same a b (sym x.at ∙ ap (λ k. slice_get (acquirings j) k) n ∙ y.at)
+
+-- the last acquiring of a document is known
+pub last_known : (d : ℕ) (j : List Entry) → IsLegal j → (a : Acquiring) → last_acquiring d j ≡ Some a → IsKnown a j
+last_known d = by_last (λ j. (a : Acquiring) → last_acquiring d j ≡ Some a → IsKnown a j) none more
+  where
+    none : (a : Acquiring) → last_acquiring d [] ≡ Some a → IsKnown a []
+    none a is = let f : None ≡ Some a = sym (last_acquiring-none d) ∙ is in absurd (cc)
+
+    by : (h : List Entry) (e : Entry) → IsAllowed h e.seat e.act → ((a : Acquiring) → last_acquiring d h ≡ Some a → IsKnown a h) → (a : Acquiring)
+        → (last_acquiring d h ≡ Some a) ⊎ IsFresh d h e.seat e.act a → IsKnown a (h ++ e ∷ [])
+    by h e may was a (inl x) = known_on a h e (was a x)
+    by h e may was a (inr x) =
+        let g = (subst (λ (b : Act). IsAllowed h e.seat b) x.act_is may).token_is in
+        let t = x.token_is in
+        let one : acquiring_of e.seat e.act ≡ a ∷ [] = ap (acquiring_of e.seat) x.act_is ∙ ap (λ b. b ∷ []) (sym x.acquiring_is) in
+        record {
+          n = length (acquirings h);
+          token_is = omega (arith, g, t);
+          at = ap (λ l. slice_get l (length (acquirings h))) (acquirings-push h e ∙ ap (λ l. acquirings h ++ l) one) ∙ seam (acquirings h) a [];
+        }
+
+    more : Keeps (λ j. (a : Acquiring) → last_acquiring d j ≡ Some a → IsKnown a j)
+    more h e legal may was a is = by h e may was a (last_or_new d h e.seat e.act a (sym (last_acquiring-push d h e) ∙ is))
+
+-- ---- the tokens under which an update was committed
+pub used_low : (j : List Entry) → IsLegal j → All (λ t. t ≤ length (acquirings j)) (used j)
+used_low = by_last (λ j. All (λ t. t ≤ length (acquirings j)) (used j)) none more
+  where
+    none : All (λ t. t ≤ length (acquirings [])) (used [])
+    none = subst (λ (l : List ℕ). All (λ t. t ≤ length (acquirings [])) l) (sym used-none) (all_none (λ t. t ≤ length (acquirings [])))
+
+    one : (h : List Entry) (seat : ℕ) (a : Act) → IsLegal h → IsAllowed h seat a → All (λ t. t ≤ length (acquirings h)) (used_by a)
+    one h seat (Committed doc token ticket outcome) legal may = all_one (λ t. t ≤ length (acquirings h)) token
+        (let b = token_bound doc h legal in let l = ap token_in may.holds.held.last in let t = may.holds.token_is in omega (arith, b, l, t))
+    one h seat _ legal may = all_none (λ t. t ≤ length (acquirings h))
+
+    more : Keeps (λ j. All (λ t. t ≤ length (acquirings j)) (used j))
+    more h e legal may all =
+        let P : ℕ → Type 0 = λ t. t ≤ length (acquirings (h ++ e ∷ [])) in
+        let on : (t : ℕ) → t ≤ length (acquirings h) → P t = λ t le. let a = acquirings_more h e in omega (arith, a, le) in
+        subst (λ (l : List ℕ). All P l) (sym (used-push h e))
+        (All-append P (used h) (used_by e.act) (all_map (λ t. t ≤ length (acquirings h)) P (used h) on all) (all_map (λ t. t ≤ length (acquirings h)) P (used_by e.act) on (one h e.seat e.act legal may)))
+
+pub next_unused : (j : List Entry) → IsLegal j → is_in (next_token j) (used j) ≡ false
+next_unused j legal = not_in (next_token j) (used j) (all_map (λ t. t ≤ length (acquirings j)) (λ t. t < next_token j) (used j) (λ t le. omega (arith, le)) (used_low j legal))
+
+-- a token that no entry behind uses stays unused
+pub unused_more : (token : ℕ) (more j : List Entry) → is_in token (used j) ≡ false → All (λ (e : Entry). is_in token (used_by e.act) ≡ false) more → is_in token (used (j ++ more)) ≡ false
+unused_more token [] j was all = ap (λ k. is_in token (used k)) (append-nil j) ∙ was
+unused_more token (e ∷ es) j was all =
+    let here : is_in token (used (j ++ e ∷ [])) ≡ false = ap (is_in token) (used-push j e) ∙ is_in-append token (used j) (used_by e.act) ∙ both (is_in token (used j)) (is_in token (used_by e.act)) was (all 0 e (omega arith)) in
+    sym (ap (λ k. is_in token (used k)) (append_assoc j (e ∷ []) es)) ∙ unused_more token es (j ++ e ∷ []) here (λ k x l. all (suc k) x (omega arith))
+  where
+    both : (a b : Bool) → a ≡ false → b ≡ false → (a || b) ≡ false
+    both a b f g = ap₂ (λ x y. x || y) f g
+
+-- a token is used by the seat that acquired it alone
+pub unused_behind : (look : Snapshot) (a : Acquiring) (more h : List Entry) → IsLegal (h ++ more) → IsKnown a h → a.token ≡ look.token → a.seat ≡ look.seat → All (IsNoCommit look) more → All (λ (e : Entry). is_in look.token (used_by e.act) ≡ false) more
+unused_behind look a [] h legal is token_is seat_is all = all_none (λ (e : Entry). is_in look.token (used_by e.act) ≡ false)
+unused_behind look a (e ∷ es) h legal is token_is seat_is all =
+    let P : Entry → Type 0 = λ e. is_in look.token (used_by e.act) ≡ false in
+    let again : (h ++ e ∷ []) ++ es ≡ h ++ e ∷ es = append_assoc h (e ∷ []) es in
+    All-append P (e ∷ []) es (all_one P e (one e.act refl (allowed_next h e es legal) (all 0 e (omega arith))))
+    (unused_behind look a es (h ++ e ∷ []) (subst IsLegal (sym again) legal) (known_on a h e is) token_is seat_is (λ k x l. all (suc k) x (omega arith)))
+  where
+    low : IsLegal h
+    low = legal_front h (e ∷ es) legal
+
+    by : (doc token ticket : ℕ) (outcome : Outcome) → IsAllowed h e.seat (Committed doc token ticket outcome) → (e.seat ≡ look.seat → is_in look.token (token ∷ []) ≡ false) → (b : Bool) → eqb token look.token ≡ b → is_in look.token (token ∷ []) ≡ false
+    by doc token ticket outcome may behind false other = ap (λ b. b || false) other
+    by doc token ticket outcome may behind true same =
+        let mine = last_known doc h low may.holds.acquiring may.holds.held.last in
+        let t : a.token ≡ may.holds.acquiring.token = token_is ∙ sym (eqb-true token look.token same) ∙ sym may.holds.token_is in
+        behind (sym may.holds.seat_is ∙ ap (λ (x : Acquiring). x.seat) (sym (known_same a may.holds.acquiring h is mine t)) ∙ seat_is)
+
+    one : (act : Act) → e.act ≡ act → IsAllowed h e.seat e.act → IsNoCommit look e → is_in look.token (used_by e.act) ≡ false
+    one (Committed doc token ticket outcome) act_is may behind =
+        ap (λ x. is_in look.token (used_by x)) act_is
+        ∙ by doc token ticket outcome (subst (IsAllowed h e.seat) act_is may) (λ s. sym (ap (λ x. is_in look.token (used_by x)) act_is) ∙ behind s) (eqb token look.token) refl
+    one _ act_is may behind = ap (λ x. is_in look.token (used_by x)) act_is

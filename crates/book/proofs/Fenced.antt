@@ -1,0 +1,134 @@
+-- Under a token that stands, a document is what a look under this token was.
+use Rattle.std.proofs.Common.{◌≡◌, ℕ, ◌+◌, List, ◌∷◌, ◌++◌, length, map, Bool, true, false, true≢false, not, refl, sym, ap, ap₂, ◌∙◌, subst, eqb, All}
+use Rattle.std.specs.Prelude.{Option, Some, None, if◌then◌else◌}
+use Rattle.std.proofs.lemmas.Bool.{eqb-true}
+use Rattle.ranges_tracker.specs.Cells.{plain_row}
+use Rattle.ranges_tracker.specs.Shown.{shown}
+use Rattle.expiring_lock.specs.declared.refusal.Stale.{Stale}
+use Rattle.expiring_lock.specs.declared.refusal.Stale.TheVariants.{Other, Ended}
+use Rattle.dup_check.specs.declared.snapshot.Snapshot.{Snapshot}
+use Rattle.dup_check.specs.declared.snapshot.Decision.{Decision}
+use Rattle.dup_check.specs.Window.{Recent, recent, since_in}
+use Rattle.dup_check.specs.Snapshot.{outcome_of}
+use Rattle.journal_entries.specs.declared.act.Entry.{Entry}
+use Rattle.journal_rules.specs.Documents.{Item, Making, base_in, first_in, is_in, replayed, text, update_at, waiting}
+use Rattle.journal_rules.specs.Deciding.{decided}
+use Rattle.journal_rules.specs.Fence.{IsSameOf}
+use Rattle.journal_rules.specs.Legal.{IsLegal}
+use Rattle.journal_rules.specs.Locks.{Acquiring, HeldBy, Holds, is_held_in, last_acquiring, released, token_in, used, used_by}
+use Rattle.journal_rules.specs.Tracking.{cells, tracked}
+use Rattle.journal_rules.proofs.Fencing.{fenced}
+use Rattle.journal_rules.proofs.Legality.{legal_front}
+use Rattle.journal_rules.proofs.Lists.{some_same}
+use Rattle.journal_rules.proofs.Waits.{update_stays}
+use Rattle.turn_rules.specs.Locking.{staleness}
+use Rattle.book.specs.declared.document.Document.{Document}
+use Rattle.book.specs.Looking.{IsDecided, IsLook, IsOf, window_of}
+use Rattle.book.specs.Passing.{past_or_none}
+use Rattle.book.specs.Standing.{IsDocument, past_of}
+use Rattle.book.proofs.Acquirings.{known_more, known_same, last_known, unused_more}
+use Rattle.book.proofs.Locking.{window_is}
+use Rattle.book.proofs.Looking.{decision_is}
+use Rattle.book.proofs.Settling.{outcome_is}
+
+-- a document is held under a token
+pub record IsUnder (d token : ℕ) (j : List Entry) : Type 0 where
+  pub acquiring : Acquiring
+  pub held : HeldBy d acquiring j
+  pub token_is : acquiring.token ≡ token
+
+abbrev tested : Option Acquiring → List ℕ → ℕ → Option Stale
+tested o tokens token = if eqb (token_in o) token then (if is_held_in o tokens then None else Some Ended) else Some (Other (token_in o))
+
+tells : (b h : Bool) (s : Stale) → (if b then (if h then None else Some Ended) else Some s) ≡ None → (b ≡ true) × (h ≡ true)
+tells true true s e = (refl, refl)
+tells true false s e = absurd (cc)
+tells false h s e = absurd (cc)
+
+flipped : (b : Bool) → not b ≡ true → b ≡ false
+flipped true e = absurd (true≢false (sym e))
+flipped false e = refl
+
+pub under : (d token : ℕ) (j : List Entry) → staleness d token j ≡ None → IsUnder d token j
+under d token j none = by (last_acquiring d j) refl none
+  where
+    by : (o : Option Acquiring) → last_acquiring d j ≡ o → tested (last_acquiring d j) (released j) token ≡ None → IsUnder d token j
+    by None is e =
+        let t = tells (eqb 0 token) false (Other 0) (sym (ap (λ o. tested o (released j) token) is) ∙ e) in
+        absurd (true≢false (sym t.1))
+    by (Some a) is e =
+        let t = tells (eqb a.token token) (not (is_in a.token (released j))) (Other a.token) (sym (ap (λ o. tested o (released j) token) is) ∙ e) in
+        record { acquiring = a; held = record { last = is; standing = flipped (is_in a.token (released j)) t.1 }; token_is = eqb-true a.token token t.0 }
+
+module _ (look : Snapshot) (j : List Entry) (legal : IsLegal j) (of : IsOf look j) (stands : staleness look.doc look.token j ≡ None) where
+  abbrev pub d : ℕ
+  d = look.doc
+
+  abbrev pub early : List Entry
+  early = of.early
+
+  abbrev pub a : Acquiring
+  a = of.looks.acquiring
+
+  now : IsUnder d look.token j
+  now = under d look.token j stands
+
+  legal_on : IsLegal (early ++ of.more)
+  legal_on = subst IsLegal of.journal_is legal
+
+  same_acquiring : a ≡ now.acquiring
+  same_acquiring =
+      known_same a now.acquiring (early ++ of.more)
+      (known_more a of.more early (last_known d early (legal_front early of.more legal_on) a of.looks.last))
+      (last_known d (early ++ of.more) legal_on now.acquiring (sym (ap (last_acquiring d) of.journal_is) ∙ now.held.last))
+      (of.looks.token_is ∙ sym now.token_is)
+
+  pub holds : Holds look.seat look.doc look.token j
+  holds = record { acquiring = now.acquiring; held = now.held; token_is = now.token_is; seat_is = ap (λ (x : Acquiring). x.seat) (sym same_acquiring) ∙ of.looks.seat_is }
+
+  pub unused : is_in look.token (used j) ≡ false
+  unused = ap (λ k. is_in look.token (used k)) of.journal_is ∙ unused_more look.token of.more early of.looks.unused of.unused
+
+  pub fence : IsSameOf look.doc of.early j
+  fence = subst (λ (k : List Entry). IsSameOf d early k) (sym of.journal_is) (fenced early of.more d a legal_on of.looks.last ends none)
+    where
+      ends : last_acquiring d (early ++ of.more) ≡ Some a
+      ends = sym (ap (last_acquiring d) of.journal_is) ∙ now.held.last ∙ ap (λ (x : Acquiring). Some x) (sym same_acquiring)
+
+      none : All (λ (e : Entry). is_in a.token (used_by e.act) ≡ false) of.more
+      none = subst (λ t. All (λ (e : Entry). is_in t (used_by e.act) ≡ false) of.more) (sym of.looks.token_is) of.unused
+
+  pub named : update_at j look.ticket ≡ Some look.update
+  named = ap (λ k. update_at k look.ticket) of.journal_is ∙ update_stays early of.more look.ticket look.update of.looks.update_is
+
+  pub first : waiting look.doc j ≡ look.ticket ∷ (of.looks.rest ++ fence.more)
+  first = fence.first_is look.ticket of.looks.rest of.looks.first
+
+  text_same : text d j ≡ text d early
+  text_same = ap₂ (λ (m : Option Making) (l : List Item). replayed (first_in m) (map (λ (i : Item). i.op) l)) fence.making_is fence.applied_is
+
+  cells_same : cells d j ≡ cells d early
+  cells_same = ap₂ (λ (m : Option Making) (l : List Item). tracked (plain_row (first_in m)) l) fence.making_is fence.applied_is
+
+  window_same : window_of d j ≡ window_of d early
+  window_same = ap₂ (λ (m : Option Making) (l : List Item). record { base = base_in m; version = base_in m + length l; last = recent (map past_of l) }) fence.making_is fence.applied_is
+
+  -- the document as it stands is what was looked at
+  pub still : (x : Document) → IsDocument look.doc x j → IsLook x look.update look
+  still x is = record {
+    base_is = of.looks.base_is ∙ sym (ap (λ (w : Recent). w.base) window);
+    version_is = of.looks.version_is ∙ sym (ap (λ (w : Recent). w.version) window);
+    text_is = some_same look.text x.text (sym of.looks.text_is ∙ sym text_same ∙ is.text_is);
+    ranges_are = sym of.looks.ranges_are ∙ ap shown (sym cells_same) ∙ is.tracked.ranges_are;
+    past_is = of.looks.past_is ∙ ap (λ (w : Recent). past_or_none (since_in w look.update.v)) (sym window);
+    update_is = refl;
+  }
+    where
+      window : x.window ≡ window_of d early
+      window = window_is d x j is ∙ window_same
+
+  -- so the decision by the look is that of the journal
+  pub still_decided : (x : Document) (decision : Decision) → IsDocument look.doc x j → IsDecided look decision → outcome_of look.version decision ≡ decided j look.doc look.update
+  still_decided x decision is by =
+      outcome_is x look.update look (still x is) decision (outcome_of look.version decision) refl by.outcome_is
+      ∙ decision_is d x j look.update is.text_is is.window_is

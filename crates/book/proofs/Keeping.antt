@@ -1,0 +1,300 @@
+-- The documents of a book after one entry more.
+use Rattle.std.proofs.Common.{◌≡◌, ◌≢◌, ◌⊎◌, inl, inr, ℕ, zero, suc, ◌+◌, ◌-◌, ◌^◌, ◌≤◌, ◌<◌, List, [], ◌∷◌, ◌++◌, length, true, false, not, cond, slice_set, refl, sym, ap, ap₂, ◌∙◌, subst, arith, eqb, eq-eqb, ne_eqb, append-nil, length-append}
+use Rattle.std.specs.Prelude.{slice_get, position, Option, Some, None, nat_lt, if◌then◌else◌, ⊤}
+use Rattle.std.specs.List.{position_or_len}
+use Rattle.std.specs.Str.{bytes_eq}
+use Rattle.std.proofs.lemmas.Option.{slice_get_within}
+use Rattle.std.proofs.lemmas.List.{length-set}
+use Rattle.std.proofs.lemmas.Bool.Decides.{eqb_tells}
+use Rattle.journal_entries.specs.declared.update.Update.{Update}
+use Rattle.journal_entries.specs.declared.update.Outcome.{Outcome}
+use Rattle.journal_entries.specs.declared.act.Act.{Act}
+use Rattle.journal_entries.specs.declared.act.Act.TheVariants.{Made, Ticked, Sent, Malformed, Acquired, Committed, Released, Declined, Closed}
+use Rattle.journal_entries.specs.declared.act.Entry.{Entry}
+use Rattle.journal_rules.specs.Documents.{IsMade, Making, making_of, makings, name_in, is_named, number_in, number_of, item_of, items_by, applied_list, sends, ticket_of, waiting, update_of, update_at}
+use Rattle.journal_rules.specs.Keeping.{cached_by, cached}
+use Rattle.journal_rules.specs.Locks.{Acquiring, acquired_by, last_acquiring, next_token, released_by, released}
+use Rattle.journal_rules.specs.Legal.{IsAllowed, IsLegal, IsRaw}
+use Rattle.journal_rules.proofs.Pushing.{makings-push, makings-none, applied_list-push, cached-push}
+use Rattle.journal_rules.proofs.Legality.{seam, last_or, legal_push}
+use Rattle.journal_rules.proofs.Fencing.{acquired_made}
+use Rattle.journal_laws.proofs.Unmade.{unmade_waits, unmade_applied, version_low}
+use Rattle.journal_laws.proofs.Updates.{update_new}
+use Rattle.journal_rules.proofs.Waits.{one_if, committed_below, update_within, waiting-more, waiting-committed, waiting-committed_other}
+use Rattle.book.specs.declared.document.Document.{Document}
+use Rattle.book.specs.Deciding.{Becomes}
+use Rattle.book.specs.Standing.{AreDocuments, IsDocument, IsNew, IsQueued, IsKeptAs, IsLocked, IsFreed, Turns, lock_in, lock_of}
+use Rattle.book.proofs.Lists.{set_elsewhere, set_here}
+use Rattle.book.proofs.Standing.{same_self, moved, made_new, applied_document}
+use Rattle.book.proofs.Tokens.{lock_still, lock_push, lock_acquired, lock_released, lock_elsewhere}
+
+-- an act of this request that says nothing of a document
+abbrev pub Passes : ℕ → Act → Type 0
+Passes d (Made doc name project first base) = doc ≢ d
+Passes d (Ticked ms) = ⊤
+Passes d (Sent u) = u.doc ≢ d
+Passes d (Malformed doc fault) = ⊤
+Passes d (Acquired doc token until) = doc ≢ d
+Passes d (Committed doc token ticket outcome) = doc ≢ d
+Passes d (Released doc token) = doc ≢ d
+Passes d (Declined session why) = ⊤
+Passes d (Closed driver) = ⊤
+Passes d _ = ⊥
+
+making_within : (ms : List Making) (m : Making) (d : ℕ) → d < length ms → slice_get (ms ++ m ∷ []) d ≡ slice_get ms d
+making_within [] m d lt = absurd (omega (arith, lt))
+making_within (x ∷ xs) m zero lt = refl
+making_within (x ∷ xs) m (suc d) lt = making_within xs m d (omega (arith, lt))
+
+record Facts (d : ℕ) (j : List Entry) (seat : ℕ) (a : Act) : Type 0 where
+  makes : slice_get (makings j ++ making_of a) d ≡ slice_get (makings j) d
+  items : items_by d j a ≡ []
+  locks : lock_in (acquired_by d seat a (last_acquiring d j)) (released j ++ released_by a) ≡ lock_of d j
+  caches : cached_by d a (cached d j) ≡ cached d j
+
+none_made : (d : ℕ) (j : List Entry) → slice_get (makings j ++ []) d ≡ slice_get (makings j) d
+none_made d j = ap (λ l. slice_get l d) (append-nil (makings j))
+
+facts : (d : ℕ) (j : List Entry) (seat : ℕ) (a : Act) → IsLegal j → IsAllowed j seat a → Passes d a → IsMade d j → Facts d j seat a
+facts d j seat (Made doc name project first base) legal may apart made = record {
+  makes = making_within (makings j) _ d made;
+  items = refl;
+  locks = lock_still d j seat (Made doc name project first base) refl refl;
+  caches = ap (λ b. if b then true else cached d j) (ne_eqb doc d apart);
+}
+facts d j seat (Ticked ms) legal may apart made = record { makes = none_made d j; items = refl; locks = lock_still d j seat (Ticked ms) refl refl; caches = refl }
+facts d j seat (Sent u) legal may apart made = record { makes = none_made d j; items = refl; locks = lock_still d j seat (Sent u) refl refl; caches = refl }
+facts d j seat (Malformed doc fault) legal may apart made = record { makes = none_made d j; items = refl; locks = lock_still d j seat (Malformed doc fault) refl refl; caches = refl }
+facts d j seat (Acquired doc token until) legal may apart made = record {
+  makes = none_made d j;
+  items = refl;
+  locks = lock_still d j seat (Acquired doc token until) (ap (λ b. if b then Some (record { seat = seat; doc = doc; token = token; until = until }) else last_acquiring d j) (ne_eqb doc d apart)) refl;
+  caches = refl;
+}
+facts d j seat (Committed doc token ticket outcome) legal may apart made = record {
+  makes = none_made d j;
+  items = ap (λ b. if b then item_of ticket (update_at j ticket) outcome else []) (ne_eqb doc d apart);
+  locks = lock_still d j seat (Committed doc token ticket outcome) refl refl;
+  caches = refl;
+}
+facts d j seat (Released doc token) legal may apart made = record {
+  makes = none_made d j;
+  items = refl;
+  locks = lock_elsewhere d doc token may.acquiring j legal may.held.last may.token_is apart;
+  caches = refl;
+}
+facts d j seat (Declined session why) legal may apart made = record { makes = none_made d j; items = refl; locks = lock_still d j seat (Declined session why) refl refl; caches = refl }
+facts d j seat (Closed driver) legal may apart made = record { makes = none_made d j; items = refl; locks = lock_still d j seat (Closed driver) refl refl; caches = refl }
+facts d j seat _ legal may apart made = absurd apart
+
+-- what waits after an entry that commits nothing
+waits_none : (d : ℕ) (j : List Entry) (e : Entry) → IsLegal j → ticket_of e.act ≡ [] → sends d e.act ≡ false → waiting d (j ++ e ∷ []) ≡ waiting d j
+waits_none d j e legal none unsent = waiting-more d j e (committed_below j legal) none ∙ ap (λ b. waiting d j ++ one_if b (length j)) unsent ∙ append-nil (waiting d j)
+
+waits_on : (d : ℕ) (j : List Entry) (e : Entry) (a : Act) → e.act ≡ a → IsLegal j → IsAllowed j e.seat a → Passes d a → waiting d (j ++ e ∷ []) ≡ waiting d j
+waits_on d j e (Committed doc token ticket outcome) is legal may apart = waiting-committed_other d doc j e ticket may.rest (λ h. apart (sym h)) (ap (sends d) is) (ap ticket_of is) may.first
+waits_on d j e (Sent u) is legal may apart = waits_none d j e legal (ap ticket_of is) (ap (sends d) is ∙ ne_eqb u.doc d apart)
+waits_on d j e (Made doc name project first base) is legal may apart = waits_none d j e legal (ap ticket_of is) (ap (sends d) is)
+waits_on d j e (Ticked ms) is legal may apart = waits_none d j e legal (ap ticket_of is) (ap (sends d) is)
+waits_on d j e (Malformed doc fault) is legal may apart = waits_none d j e legal (ap ticket_of is) (ap (sends d) is)
+waits_on d j e (Acquired doc token until) is legal may apart = waits_none d j e legal (ap ticket_of is) (ap (sends d) is)
+waits_on d j e (Released doc token) is legal may apart = waits_none d j e legal (ap ticket_of is) (ap (sends d) is)
+waits_on d j e (Declined session why) is legal may apart = waits_none d j e legal (ap ticket_of is) (ap (sends d) is)
+waits_on d j e (Closed driver) is legal may apart = waits_none d j e legal (ap ticket_of is) (ap (sends d) is)
+waits_on d j e _ is legal may apart = absurd apart
+
+-- a document of which an entry says nothing
+pub passed : (d : ℕ) (x : Document) (j : List Entry) (e : Entry) → IsLegal j → IsAllowed j e.seat e.act → Passes d e.act → IsMade d j → IsDocument d x j → IsDocument d x (j ++ e ∷ [])
+passed d x j e legal may apart made was =
+    let f = facts d j e.seat e.act legal may apart made in
+    moved d x x j (j ++ e ∷ [])
+    (ap (λ l. slice_get l d) (makings-push j e) ∙ f.makes)
+    (applied_list-push d j e ∙ ap (λ l. applied_list d j ++ l) f.items ∙ append-nil (applied_list d j))
+    (same_self x)
+    (was.waiting_is ∙ sym (waits_on d j e e.act refl legal may apart))
+    (was.lock_is ∙ sym (lock_push d j e ∙ f.locks))
+    (cached-push d j e ∙ f.caches ∙ was.cached_is) was
+
+-- ---- all documents
+abbrev pub IsSmallAct : Act → Type 0
+IsSmallAct a = (u : Update) → update_of a ≡ Some u → IsRaw u.op
+
+raw_on : (j : List Entry) (e : Entry) → IsSmallAct e.act → ((t : ℕ) (u : Update) → update_at j t ≡ Some u → IsRaw u.op) → (t : ℕ) (u : Update) → update_at (j ++ e ∷ []) t ≡ Some u → IsRaw u.op
+raw_on j e small was t u is = by (update_new j e t u is)
+  where
+    by : (update_at j t ≡ Some u) ⊎ ((t ≡ length j) × (update_of e.act ≡ Some u)) → IsRaw u.op
+    by (inl old) = was t u old
+    by (inr new) = small u new.1
+
+same_count : (j : List Entry) (e : Entry) → making_of e.act ≡ [] → length (makings (j ++ e ∷ [])) ≡ length (makings j)
+same_count j e no_making = ap length (makings-push j e ∙ ap (λ l. makings j ++ l) no_making ∙ append-nil (makings j))
+
+pub kept_quiet : (documents : List Document) (j : List Entry) (e : Entry) → IsAllowed j e.seat e.act → ((d : ℕ) → Passes d e.act) → making_of e.act ≡ [] → IsSmallAct e.act → AreDocuments documents j → AreDocuments documents (j ++ e ∷ [])
+kept_quiet documents j e may apart no_making small were = record {
+  legal = legal_push j e were.legal may;
+  few = were.few;
+  count = were.count ∙ sym (same_count j e no_making);
+  each = λ d x at. (let lt = slice_get_within documents d x at in let c = were.count in passed d x j e were.legal may (apart d) (omega (arith, lt, c)) (were.each d x at));
+  raw = raw_on j e small were.raw;
+}
+
+pub kept_set : (documents : List Document) (doc : ℕ) (was now : Document) (j : List Entry) (e : Entry) → slice_get documents doc ≡ Some was → IsAllowed j e.seat e.act → ((d : ℕ) → doc ≢ d → Passes d e.act) → making_of e.act ≡ [] → IsSmallAct e.act
+    → IsDocument doc now (j ++ e ∷ []) → AreDocuments documents j → AreDocuments (slice_set documents doc now) (j ++ e ∷ [])
+kept_set documents doc was now j e at_was may apart no_making small here were = record {
+  legal = legal_push j e were.legal may;
+  few = let n = length-set documents doc now in let m = were.few in omega (arith, n, m);
+  count = length-set documents doc now ∙ were.count ∙ sym (same_count j e no_making);
+  each = λ d x at. by d x at (eqb_tells doc d);
+  raw = raw_on j e small were.raw;
+}
+  where
+    by : (d : ℕ) (x : Document) → slice_get (slice_set documents doc now) d ≡ Some x → ((eqb doc d ≡ true) × (doc ≡ d)) ⊎ ((eqb doc d ≡ false) × (doc ≢ d)) → IsDocument d x (j ++ e ∷ [])
+    by d x at (inl t) =
+        let is : x ≡ now = set_here documents doc now x (subst (λ (n : ℕ). slice_get (slice_set documents doc now) n ≡ Some x) (sym t.1) at) in
+        subst (λ (n : ℕ). IsDocument n x (j ++ e ∷ [])) t.1 (subst (λ (y : Document). IsDocument doc y (j ++ e ∷ [])) (sym is) here)
+    by d x at (inr t) =
+        let at_old = set_elsewhere documents doc d now x (λ h. t.1 (sym h)) at in
+        let lt = slice_get_within documents d x at_old in let c = were.count in
+        passed d x j e were.legal may (apart d t.1) (omega (arith, lt, c)) (were.each d x at_old)
+
+-- ---- where nothing but spare room was changed
+pub kept_same : (documents documents' : List Document) (doc : ℕ) (j : List Entry) → Turns doc IsKeptAs documents documents' → AreDocuments documents j → AreDocuments documents' j
+kept_same documents documents' doc j t were = subst (λ (l : List Document). AreDocuments l j) (sym t.set_is) (record {
+  legal = were.legal;
+  few = let n = length-set documents doc t.now in let m = were.few in omega (arith, n, m);
+  count = length-set documents doc t.now ∙ were.count;
+  each = λ d x at. by d x at (eqb_tells doc d);
+  raw = were.raw;
+})
+  where
+    was : IsDocument doc t.was j
+    was = were.each doc t.was t.at
+
+    by : (d : ℕ) (x : Document) → slice_get (slice_set documents doc t.now) d ≡ Some x → ((eqb doc d ≡ true) × (doc ≡ d)) ⊎ ((eqb doc d ≡ false) × (doc ≢ d)) → IsDocument d x j
+    by d x at (inl s) =
+        let is : x ≡ t.now = set_here documents doc t.now x (subst (λ (n : ℕ). slice_get (slice_set documents doc t.now) n ≡ Some x) (sym s.1) at) in
+        subst (λ (n : ℕ). IsDocument n x j) s.1 (subst (λ (y : Document). IsDocument doc y j) (sym is)
+        (moved doc t.was t.now j j refl refl t.is.same (t.is.waiting_is ∙ was.waiting_is) (t.is.lock_is ∙ was.lock_is) was.cached_is was))
+    by d x at (inr s) = were.each d x (set_elsewhere documents doc d t.now x (λ h. s.1 (sym h)) at)
+
+-- ---- a document that an entry speaks of
+module _ (doc : ℕ) (was now : Document) (j : List Entry) (e : Entry) (legal : IsLegal j) (before : IsDocument doc was j) where
+  no_making_more : making_of e.act ≡ [] → slice_get (makings (j ++ e ∷ [])) doc ≡ slice_get (makings j) doc
+  no_making_more none = ap (λ l. slice_get l doc) (makings-push j e ∙ ap (λ l. makings j ++ l) none ∙ append-nil (makings j))
+
+  no_item_more : items_by doc j e.act ≡ [] → applied_list doc (j ++ e ∷ []) ≡ applied_list doc j
+  no_item_more none = applied_list-push doc j e ∙ ap (λ l. applied_list doc j ++ l) none ∙ append-nil (applied_list doc j)
+
+  still_cached : cached_by doc e.act (cached doc j) ≡ cached doc j → cached doc (j ++ e ∷ []) ≡ true
+  still_cached same = cached-push doc j e ∙ same ∙ before.cached_is
+
+  pub here_sent : (u : Update) → e.act ≡ Sent u → u.doc ≡ doc → IsQueued (length j) was now → IsDocument doc now (j ++ e ∷ [])
+  here_sent u is own queued =
+      moved doc was now j (j ++ e ∷ []) (no_making_more (ap making_of is)) (no_item_more (ap (items_by doc j) is)) queued.same
+      (queued.waiting_is ∙ ap (λ l. l ++ length j ∷ []) before.waiting_is
+      ∙ sym (waiting-more doc j e (committed_below j legal) (ap ticket_of is) ∙ ap (λ b. waiting doc j ++ one_if b (length j)) (ap (sends doc) is ∙ eq-eqb u.doc doc own)))
+      (queued.lock_is ∙ before.lock_is ∙ sym (lock_push doc j e ∙ ap (λ a. lock_in (acquired_by doc e.seat a (last_acquiring doc j)) (released j ++ released_by a)) is ∙ ap (λ l. lock_in (last_acquiring doc j) l) (append-nil (released j))))
+      (still_cached (ap (λ a. cached_by doc a (cached doc j)) is)) before
+
+  pub here_acquired : (token until : ℕ) → e.act ≡ Acquired doc token until → token ≡ next_token j → IsLocked (record { last = token; until = until; seat = e.seat; held = true }) was now → IsDocument doc now (j ++ e ∷ [])
+  here_acquired token until is next locked =
+      moved doc was now j (j ++ e ∷ []) (no_making_more (ap making_of is)) (no_item_more (ap (items_by doc j) is)) locked.same
+      (locked.waiting_is ∙ before.waiting_is ∙ sym (waits_none doc j e legal (ap ticket_of is) (ap (sends doc) is)))
+      (locked.lock_is ∙ sym (lock_acquired doc token until j e legal is next))
+      (still_cached (ap (λ a. cached_by doc a (cached doc j)) is)) before
+
+  pub here_released : (token : ℕ) (a : Acquiring) → e.act ≡ Released doc token → last_acquiring doc j ≡ Some a → a.token ≡ token → IsFreed was now → IsDocument doc now (j ++ e ∷ [])
+  here_released token a is last same freed =
+      moved doc was now j (j ++ e ∷ []) (no_making_more (ap making_of is)) (no_item_more (ap (items_by doc j) is)) freed.same
+      (freed.waiting_is ∙ before.waiting_is ∙ sym (waits_none doc j e legal (ap ticket_of is) (ap (sends doc) is)))
+      (freed.lock_is ∙ ap (λ l. record { last = l.last; until = l.until; seat = l.seat; held = false }) before.lock_is ∙ sym (lock_released doc token a j e is last same))
+      (still_cached (ap (λ a. cached_by doc a (cached doc j)) is)) before
+
+  pub here_committed : (token ticket : ℕ) (outcome : Outcome) (u : Update) (rest : List ℕ) → e.act ≡ Committed doc token ticket outcome → waiting doc j ≡ ticket ∷ rest → update_at j ticket ≡ Some u
+      → Becomes was u now outcome → now.lock ≡ was.lock → now.waiting.items ≡ rest → IsDocument doc now (j ++ e ∷ [])
+  here_committed token ticket outcome u rest is first named becomes locks waits =
+      applied_document doc was now j (j ++ e ∷ []) ticket u outcome (no_making_more (ap making_of is))
+      (applied_list-push doc j e ∙ ap (λ a. applied_list doc j ++ items_by doc j a) is
+      ∙ ap (λ b. applied_list doc j ++ (if b then item_of ticket (update_at j ticket) outcome else [])) (eq-eqb doc doc refl)
+      ∙ ap (λ o. applied_list doc j ++ item_of ticket o outcome) named)
+      (waits ∙ sym (waiting-committed doc j e ticket rest (ap (sends doc) is) (ap ticket_of is) first))
+      (locks ∙ before.lock_is ∙ sym (lock_push doc j e ∙ ap (λ a. lock_in (acquired_by doc e.seat a (last_acquiring doc j)) (released j ++ released_by a)) is ∙ ap (λ l. lock_in (last_acquiring doc j) l) (append-nil (released j))))
+      (still_cached (ap (λ a. cached_by doc a (cached doc j)) is)) becomes before
+
+-- ---- a new document
+never_acquired : (d : ℕ) (j : List Entry) → IsLegal j → length (makings j) ≤ d → last_acquiring d j ≡ None
+never_acquired d j legal high = by (last_acquiring d j) refl
+  where
+    by : (o : Option Acquiring) → last_acquiring d j ≡ o → o ≡ None
+    by None is = refl
+    by (Some a) is = let made = acquired_made d j legal a is in absurd (omega (arith, made, high))
+
+pub unmade_lock : (d : ℕ) (j : List Entry) → IsLegal j → length (makings j) ≤ d → lock_of d j ≡ record { last = 0; until = 0; seat = 0; held = false }
+unmade_lock d j legal high = ap (λ o. lock_in o (released j)) (never_acquired d j legal high)
+
+pub kept_made : (documents : List Document) (new : Document) (j : List Entry) (e : Entry) (doc : ℕ) (name project first : List ℕ) (base : ℕ) → e.act ≡ Made doc name project first base → IsAllowed j e.seat (Made doc name project first base) → length documents < 1000 → IsNew new name first base → AreDocuments documents j → AreDocuments (documents ++ new ∷ []) (j ++ e ∷ [])
+kept_made documents new j e doc name project first base is may few is_new were = record {
+  legal = legal_push j e were.legal (subst (IsAllowed j e.seat) (sym is) may);
+  few = let n = length-append documents (new ∷ []) in omega (arith, n, few);
+  count = let n = length-append documents (new ∷ []) in let k = ap length ms ∙ length-append (makings j) (m ∷ []) in let c = were.count in omega (arith, n, k, c);
+  each = λ d document at. by d document (last_or documents new d document at);
+  raw = raw_on j e (λ u sent. (let f : None ≡ Some u = sym (ap update_of is) ∙ sent in absurd (cc))) were.raw;
+}
+  where
+    m : Making
+    m = record { name = name; project = project; first = first; base = base }
+
+    ms : makings (j ++ e ∷ []) ≡ makings j ++ m ∷ []
+    ms = makings-push j e ∙ ap (λ a. makings j ++ making_of a) is
+
+    items : (d : ℕ) → applied_list d (j ++ e ∷ []) ≡ applied_list d j
+    items d = applied_list-push d j e ∙ ap (λ a. applied_list d j ++ items_by d j a) is ∙ append-nil (applied_list d j)
+
+    waits : (d : ℕ) → waiting d (j ++ e ∷ []) ≡ waiting d j
+    waits d = waits_none d j e were.legal (ap ticket_of is) (ap (sends d) is)
+
+    by : (d : ℕ) (document : Document) → (slice_get documents d ≡ Some document) ⊎ ((d ≡ length documents) × (document ≡ new)) → IsDocument d document (j ++ e ∷ [])
+    by d document (inl at) =
+        let lt = slice_get_within documents d document at in
+        let c = were.count in
+        let next = may.next in
+        passed d document j e were.legal (subst (IsAllowed j e.seat) (sym is) may) (subst (Passes d) (sym is) (λ same. let s = same in absurd (omega (arith, s, lt, c, next)))) (omega (arith, lt, c)) (were.each d document at)
+    by d document (inr t) =
+        let at : d ≡ length (makings j) = t.0 ∙ were.count in
+        let here : slice_get (makings (j ++ e ∷ [])) d ≡ Some m = ap₂ (λ (l : List Making) (n : ℕ). slice_get l n) ms at ∙ seam (makings j) m [] in
+        let high : length (makings j) ≤ d = omega (arith, at) in
+        let none : applied_list d (j ++ e ∷ []) ≡ [] = items d ∙ unmade_applied d j were.legal high in
+        let idle : waiting d (j ++ e ∷ []) ≡ [] = waits d ∙ unmade_waits d j were.legal high in
+        let locks : lock_of d (j ++ e ∷ []) ≡ record { last = 0; until = 0; seat = 0; held = false } =
+        lock_push d j e ∙ ap (λ a. lock_in (acquired_by d e.seat a (last_acquiring d j)) (released j ++ released_by a)) is ∙ ap (λ l. lock_in (last_acquiring d j) l) (append-nil (released j)) ∙ unmade_lock d j were.legal high in
+        let caches : cached d (j ++ e ∷ []) ≡ true = cached-push d j e ∙ ap (λ a. cached_by d a (cached d j)) is ∙ ap (λ b. if b then true else cached d j) (eq-eqb doc d (may.next ∙ sym at)) in
+        subst (λ (x : Document). IsDocument d x (j ++ e ∷ [])) (sym t.1) (made_new d new (j ++ e ∷ []) m here none idle locks caches may.short is_new)
+
+-- ---- the document of a name has the same number in the book as in the journal
+same_place : (name : List ℕ) (documents : List Document) (ms : List Making) → length documents ≡ length ms → ((d : ℕ) (document : Document) → slice_get documents d ≡ Some document → document.name ≡ name_in (slice_get ms d)) → position_or_len (λ (x : Document). bytes_eq name x.name) documents ≡ position_or_len (is_named name) ms
+same_place name [] [] count same = refl
+same_place name [] (m ∷ ms) count same = absurd (omega (arith, count))
+same_place name (x ∷ xs) [] count same = absurd (omega (arith, count))
+same_place name (x ∷ xs) (m ∷ ms) count same =
+    let rest = same_place name xs ms (omega (arith, count)) (λ d document at. same (suc d) document at) in
+    ap₂ (λ (n : List ℕ) (k : ℕ). cond (not (bytes_eq name n)) (1 + k) 0) (same 0 x refl) rest
+
+pub found_in : (name : List ℕ) (documents : List Document) (ms : List Making) → length documents ≡ length ms → ((d : ℕ) (document : Document) → slice_get documents d ≡ Some document → document.name ≡ name_in (slice_get ms d)) → position (λ (x : Document). bytes_eq name x.name) documents ≡ number_in name ms
+found_in name documents ms count same = ap₂ (λ (n k : ℕ). if nat_lt n k then Some n else None) (same_place name documents ms count same) count
+
+pub found_on : (name : List ℕ) (documents : List Document) (j : List Entry) → AreDocuments documents j → position (λ (x : Document). bytes_eq name x.name) documents ≡ number_of name j
+found_on name documents j were = found_in name documents (makings j) were.count (λ d document at. (were.each d document at).name_is)
+
+-- no documents
+pub kept_none : AreDocuments [] []
+kept_none = record {
+  legal = λ i e at. absurd (cc);
+  few = omega arith;
+  count = ap length (sym makings-none);
+  each = λ d document at. absurd (cc);
+  raw = λ t u is. (let lt = update_within [] t u is in absurd (omega (arith, lt)));
+}
+
+-- a version has room for one more
+pub version_fits : (doc : ℕ) (document : Document) (documents : List Document) (j : List Entry) → AreDocuments documents j → IsDocument doc document j → length j < 2 ^ 63 → document.window.version < 2 ^ 64 - 1
+version_fits doc document documents j were was short = let low = version_low doc j were.legal in let v = was.window_is.version_is in omega (arith, low, v, short)

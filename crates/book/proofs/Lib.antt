@@ -1,0 +1,14 @@
+pub mod Lists
+pub mod Reaching
+pub mod Looking
+pub mod Rooms
+pub mod Standing
+pub mod Settling
+pub mod Owed
+pub mod Tokens
+pub mod Acquirings
+pub mod Keeping
+pub mod Booking
+pub mod Locking
+pub mod Fenced
+pub mod Committing

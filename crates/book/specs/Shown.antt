@@ -1,0 +1,37 @@
+-- What contracts see of a book: its journal and the number of its drivers; and what holds of its fields.
+use Rattle.std.specs.Prelude.{◌≡◌, ℕ, zero, suc, ◌+◌, ◌≤◌, ◌==◌, List, ◌++◌, length, map, Option, if◌then◌else◌}
+use Rattle.journal_entries.specs.Journals.{Journaled, entries, spare}
+use Rattle.journal_entries.specs.declared.act.Act.{Act}
+use Rattle.journal_entries.specs.declared.act.Entry.{Entry}
+use Rattle.journal_rules.specs.Documents.{is_in}
+use Rattle.journal_rules.specs.Locks.{acquirings, clock}
+use Rattle.journal_rules.specs.Legal.{clock_end, closed}
+use Rattle.turn_rules.specs.Turns.{entry_by}
+use Rattle.book.specs.declared.document.Document.{Document}
+use Rattle.book.specs.Standing.{AreDocuments, owed_for}
+
+pub record Shown : Type 0 where
+  pub journal : List Entry
+  pub drivers : ℕ
+
+-- a run on one thread has one driver
+abbrev pub driver_count : ℕ → ℕ
+driver_count drivers = if drivers == 0 then 1 else drivers
+
+-- how many drivers haven't closed
+abbrev pub unclosed : ℕ → List ℕ → ℕ
+unclosed zero tokens = 0
+unclosed (suc n) tokens = (if is_in n tokens then 0 else 1) + unclosed n tokens
+
+-- the journal is legal, and the documents, the clock and the count of tokens stand as it says; and there is room for what is owed: an entry for each update that waits, each lock that wasn't released and each driver that hasn't closed
+pub record IsBook (journal : Journaled) (documents : List Document) (now tokens owed drivers : ℕ) : Type 0 where
+  pub stands : AreDocuments documents (entries journal)
+  pub now_is : now ≡ clock (entries journal)
+  pub now_low : now ≤ clock_end
+  pub tokens_are : tokens ≡ length (acquirings (entries journal))
+  pub counted : owed_for documents + unclosed (driver_count drivers) (closed (entries journal)) ≤ owed
+  pub room : owed ≤ spare journal
+
+-- a book with these entries more, by a seat, for a line or for none
+abbrev pub adds : Shown → ℕ → Option ℕ → List Act → Shown
+adds book seat line acts = record { journal = book.journal ++ map (entry_by seat line) acts; drivers = book.drivers }

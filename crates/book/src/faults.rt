@@ -1,0 +1,94 @@
+//! What the calls of a book take, and why they refuse.
+
+ghost use Rattle.std.specs.Prelude.{◌≡◌, IfOk};
+ghost use Rattle.book.specs.Looking.{op_of};
+
+use dup_check::{Decision, Snapshot};
+use expiring_lock::{Busy, Stale};
+use journal_entries::Sources;
+use ot_op::{FormFault, Op};
+use ot_units::Name;
+use std::alloc::{AllocError, Global};
+
+/// By which seat an entry is made, and for which line of the script, from 1, or for none.
+#[derive(Clone, Copy, Debug)]
+pub struct By {
+    pub seat: u32,
+    pub line: Option<u32>,
+}
+
+/// An update that no client sends, as a script has it.
+#[derive(Debug, Drop)]
+pub struct RawUpdate {
+    pub doc: u32,
+    pub user: Name,
+    pub source: u64,
+    pub dup: Sources,
+    pub track: bool,
+    pub v: u64,
+    pub op: Result<Op, FormFault>,
+}
+
+/// A look of a document, and the decision by it.
+#[derive(Debug, Drop)]
+pub struct Prepared {
+    pub look: Snapshot,
+    pub decision: Decision,
+}
+
+impl Prepared {
+    // A copy of the operation that the decision applies, for the document's window.
+    pub(crate) fn copy_op(&self, alloc: Global) -> Result<Op, AllocError>
+        ensures { IfOk result (λ op. op ≡ op_of self.now.decision) }
+    {
+        match &self.decision {
+            Decision::Apply { op, .. } => op.copy(alloc),
+            Decision::Dup(_) | Decision::Refuse(_) => Ok(Op::empty(alloc)),
+        }
+    }
+}
+
+/// Why a document isn't made.
+#[derive(Clone, Copy, Debug, PartialEq, Eq)]
+pub enum MakeFault {
+    /// One of this name was made, with this number.
+    Exists(u32),
+    Memory,
+}
+
+/// Why the clock doesn't go on.
+#[derive(Clone, Copy, Debug, PartialEq, Eq)]
+pub enum TickFault {
+    /// It would pass 2^62 milliseconds. It is at `now`.
+    ClockEnd { now: u64 },
+    Memory,
+}
+
+/// Why a raw update isn't sent.
+#[derive(Clone, Copy, Debug, PartialEq, Eq)]
+pub enum RawFault {
+    /// Its document wasn't made.
+    NoDoc,
+    Memory,
+}
+
+/// Why a document's lock isn't acquired.
+#[derive(Clone, Copy, Debug, PartialEq, Eq)]
+pub enum AcquireFault {
+    /// The document wasn't made.
+    NoDoc,
+    /// No update waits for it.
+    Empty,
+    /// It is held, and the lock hasn't expired.
+    Busy(Busy),
+    Memory,
+}
+
+/// Why a decision isn't committed.
+#[derive(Debug, Drop)]
+pub enum CommitFault {
+    /// The token no longer stands.
+    Stale(Stale),
+    /// Memory was wanting. What was prepared is given back.
+    Memory(Prepared),
+}

@@ -1,0 +1,179 @@
+//! The calls of a book under a document's lock.
+
+ghost use Rattle.std.specs.Prelude.{◌≡◌, ◌<◌, ◌≤◌, ◌+◌, ◌∷◌, [], length, nat_lt, false, IfOk, IfErr, OnOk, OnErr, None, Some};
+ghost use Rattle.journal_entries.specs.declared.act.Act.TheVariants.{Committed, Released};
+ghost use Rattle.journal_entries.specs.declared.update.Outcome.TheVariants.{Refused};
+ghost use Rattle.journal_rules.specs.Documents.{IsMade, makings, waiting};
+ghost use Rattle.journal_rules.specs.Deciding.{decided};
+ghost use Rattle.journal_rules.specs.Locks.{Holds, next_token};
+ghost use Rattle.turn_rules.specs.Locking.{acquired, staleness};
+ghost use Rattle.book.specs.Shown.{adds};
+ghost use Rattle.book.specs.Calls.{MayNotCommit, MayRefuse, acquire_refused, stale_in, told};
+ghost use Rattle.book.specs.Looking.{CanDecide, IsDecided, IsLookAt, IsOf};
+
+use crate::book::{Book, entry_of};
+use crate::document::Taking;
+use crate::documents::{check, let_go, settle, take, unqueue, update_at};
+use crate::faults::{AcquireFault, By, CommitFault, Prepared};
+use crate::room::make_room;
+use dup_check::Snapshot;
+use expiring_lock::Stale;
+use journal_entries::{Act, Cause, Outcome};
+
+impl Book {
+    /// Acquires a document's lock under the next token, and answers what the first update that waits is decided by.
+    pub fn acquire(&mut self, by: By, doc: u32) -> Result<Snapshot, AcquireFault>
+        ensures acquired { IfOk result (λ look. self.new ≡ adds self.old by.seat by.line (acquired doc self.old.journal ∷ [])) }
+        ensures looks { IfOk result (λ look. IsLookAt self.new.journal look × (look.seat ≡ by.seat) × (look.doc ≡ doc)) }
+        ensures ready { IfOk result (λ look. CanDecide look) }
+        ensures free { IfOk result (λ _. acquire_refused doc self.old.journal ≡ None) }
+        ensures refused { IfErr result (λ f. told f ≡ acquire_refused doc self.old.journal) }
+        ensures kept { OnErr result (self.new ≡ self.old) }
+    {
+        let at = doc as usize;
+        if at >= self.documents.len() {
+            return Err(AcquireFault::NoDoc);
+        }
+        let document = &self.documents[at];
+        let Some(&ticket) = document.waiting.front() else {
+            return Err(AcquireFault::Empty);
+        };
+        if let Some(busy) = document.lock.busy(self.moment) {
+            return Err(AcquireFault::Busy(busy));
+        }
+        let length = self.journal.len();
+        let token = self.tokens + 1;
+        let Some(update) = update_at(self.journal.as_slice(), ticket) else {
+            unreachable!()
+        };
+        let taking = Taking {
+            seat: by.seat,
+            token,
+            doc,
+            ticket,
+            at: length + 1,
+        };
+        let Ok(look) = document.look(self.alloc, taking, update) else {
+            return Err(AcquireFault::Memory);
+        };
+        let Ok(sum) = make_room(&mut self.journal, self.owed, 2) else {
+            return Err(AcquireFault::Memory);
+        };
+        let until = take(&mut self.documents, at, self.moment, token, by.seat);
+        self.journal
+            .push(entry_of(by, Act::Acquired { doc, token, until }));
+        self.tokens = token;
+        self.owed = sum - 1;
+        Ok(look)
+    }
+
+    /// Commits what was decided by a look: its update is settled, and nothing is computed again. By
+    /// the fence, what the look's holder decided is what the journal as it now is decides. [`CommitFault`]
+    /// leaves all as it was.
+    pub fn commit(&mut self, by: By, prepared: Prepared) -> Result<(), CommitFault>
+        requires seat { by.seat ≡ prepared.look.seat }
+        requires looked { IsOf prepared.look self.old.journal }
+        requires decided { IsDecided prepared.look prepared.decision }
+        ensures ok { OnOk result ((staleness prepared.look.doc prepared.look.token self.old.journal ≡ None)
+            × (self.new ≡ adds self.old by.seat by.line (Committed prepared.look.doc prepared.look.token prepared.look.ticket (decided self.old.journal prepared.look.doc prepared.look.update) ∷ []))) }
+        ensures refused { IfErr result (λ f. MayNotCommit self.old.journal prepared f) }
+        ensures kept { OnErr result (self.new ≡ self.old) }
+    {
+        let doc = prepared.look.doc;
+        let token = prepared.look.token;
+        let ticket = prepared.look.ticket;
+        let at = doc as usize;
+        if at >= self.documents.len() {
+            return Err(CommitFault::Stale(never_given(token)));
+        }
+        if let Some(stale) = check(&self.documents, at, token) {
+            return Err(CommitFault::Stale(stale));
+        }
+        let Ok(op) = prepared.copy_op(self.alloc) else {
+            return Err(CommitFault::Memory(prepared));
+        };
+        // No journal is so long that a version could pass 2^64.
+        let _length = self.journal.len();
+        let outcome = settle(&mut self.documents, at, prepared, op);
+        self.journal.push(entry_of(
+            by,
+            Act::Committed {
+                doc,
+                token,
+                ticket,
+                outcome,
+            },
+        ));
+        self.owed -= 1;
+        Ok(())
+    }
+
+    /// Refuses the first update that waits, under a lock's token. Takes no memory: the room was made as the update was sent.
+    pub fn refuse(
+        &mut self,
+        by: By,
+        doc: u32,
+        token: u64,
+        ticket: u64,
+        cause: Cause,
+    ) -> Result<(), Stale>
+        requires may { staleness doc token self.old.journal ≡ None → MayRefuse self.old.journal by.seat doc token ticket cause }
+        ensures ok { OnOk result ((staleness doc token self.old.journal ≡ None) × (self.new ≡ adds self.old by.seat by.line (Committed doc token ticket (Refused cause) ∷ []))) }
+        ensures stale { IfErr result (λ s. staleness doc token self.old.journal ≡ Some s) }
+        ensures kept { OnErr result (self.new ≡ self.old) }
+    {
+        let at = doc as usize;
+        if at >= self.documents.len() {
+            return Err(never_given(token));
+        }
+        if let Some(stale) = check(&self.documents, at, token) {
+            return Err(stale);
+        }
+        unqueue(&mut self.documents, at);
+        let outcome = Outcome::Refused(cause);
+        self.journal.push(entry_of(
+            by,
+            Act::Committed {
+                doc,
+                token,
+                ticket,
+                outcome,
+            },
+        ));
+        self.owed -= 1;
+        Ok(())
+    }
+
+    /// Releases a document's lock, and tells whether an update waits. Takes no memory: the room was made as the lock was acquired.
+    pub fn release(&mut self, by: By, doc: u32, token: u64) -> Result<bool, Stale>
+        requires may { staleness doc token self.old.journal ≡ None → Holds by.seat doc token self.old.journal }
+        ensures ok { IfOk result (λ more. (staleness doc token self.old.journal ≡ None) × (more ≡ nat_lt 0 (length (waiting doc self.old.journal))) × (self.new ≡ adds self.old by.seat by.line (Released doc token ∷ []))) }
+        ensures stale { IfErr result (λ s. staleness doc token self.old.journal ≡ Some s) }
+        ensures kept { OnErr result (self.new ≡ self.old) }
+    {
+        let at = doc as usize;
+        if at >= self.documents.len() {
+            return Err(never_given(token));
+        }
+        if let Some(stale) = check(&self.documents, at, token) {
+            return Err(stale);
+        }
+        let more = self.documents[at].waiting.len() > 0;
+        let_go(&mut self.documents, at, token);
+        self.journal
+            .push(entry_of(by, Act::Released { doc, token }));
+        self.owed -= 1;
+        Ok(more)
+    }
+}
+
+// What is wrong with a token of a document that wasn't made.
+fn never_given(token: u64) -> Stale
+    ensures { stale_in (record { last = 0; until = 0; seat = 0; held = false }) token ≡ Some result }
+{
+    if token == 0 {
+        Stale::Ended
+    } else {
+        Stale::Other(0)
+    }
+}
