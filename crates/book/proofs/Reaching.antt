@@ -12,7 +12,7 @@ use Rattle.ot_op.specs.Operation.{place}
 use Rattle.ot_op.specs.Apply.{applied, applied_all, stands}
 use Rattle.ot_transform.specs.Size.{edit_units, edit_units_in, Within}
 use Rattle.ot_transform.proofs.Rooms.{length-put}
-use Rattle.ranges_tracker.proofs.Folding.{First, first_of_all}
+use Rattle.ot_op.proofs.Applying.{First, first_of_all}
 use Rattle.ranges_tracker.proofs.Stepping.{if_some, stands_of}
 use Rattle.dup_check.specs.Snapshot.{IsSmall}
 use Rattle.journal_rules.specs.Deciding.{longest}

@@ -6,7 +6,7 @@ ghost use Rattle.journal_entries.specs.declared.act.Act.TheVariants.{Made, Ticke
 ghost use Rattle.journal_rules.specs.Documents.{IsMade, is_in, makings, number_of, waiting};
 ghost use Rattle.journal_rules.specs.Deciding.{longest};
 ghost use Rattle.journal_rules.specs.Locks.{clock};
-ghost use Rattle.journal_rules.specs.Legal.{IsRaw, closed, clock_end, highest_base};
+ghost use Rattle.journal_rules.specs.Legal.{IsLegal, IsRaw, closed, clock_end, highest_base};
 ghost use Rattle.journal_rules.specs.Whys.{IsWhy};
 ghost use Rattle.book.specs.Shown.{adds, driver_count};
 ghost use Rattle.book.specs.Calls.{existing, MayNotTick, MayNotSend, raw_act, ticket_of_raw, update_by};
@@ -202,9 +202,10 @@ impl Book {
         Some(found as u32)
     }
 
-    /// The journal.
+    /// The journal, which is legal.
     pub fn journal(&self) -> &Journal
-        ensures { entries result.now ≡ self.now.journal }
+        ensures entries { entries result.now ≡ self.now.journal }
+        ensures legal { IsLegal self.now.journal }
     {
         &self.journal
     }

@@ -1,10 +1,11 @@
 //! The calls of a book under a document's lock.
 
-ghost use Rattle.std.specs.Prelude.{◌≡◌, ◌<◌, ◌≤◌, ◌+◌, ◌∷◌, [], length, nat_lt, false, IfOk, IfErr, OnOk, OnErr, None, Some};
+ghost use Rattle.std.specs.Prelude.{◌≡◌, ◌<◌, ◌≤◌, ◌+◌, ◌∷◌, [], length, nat_lt, true, false, IfOk, IfErr, OnOk, OnErr, None, Some};
 ghost use Rattle.journal_entries.specs.declared.act.Act.TheVariants.{Committed, Released};
 ghost use Rattle.journal_entries.specs.declared.update.Outcome.TheVariants.{Refused};
 ghost use Rattle.journal_rules.specs.Documents.{IsMade, makings, waiting};
 ghost use Rattle.journal_rules.specs.Deciding.{decided};
+ghost use Rattle.journal_rules.specs.Keeping.{cached};
 ghost use Rattle.journal_rules.specs.Locks.{Holds, next_token};
 ghost use Rattle.turn_rules.specs.Locking.{acquired, staleness};
 ghost use Rattle.book.specs.Shown.{adds};
@@ -27,6 +28,7 @@ impl Book {
         ensures looks { IfOk result (λ look. IsLookAt self.new.journal look × (look.seat ≡ by.seat) × (look.doc ≡ doc)) }
         ensures ready { IfOk result (λ look. CanDecide look) }
         ensures free { IfOk result (λ _. acquire_refused doc self.old.journal ≡ None) }
+        ensures cached { IfOk result (λ _. cached doc self.old.journal ≡ true) }
         ensures refused { IfErr result (λ f. told f ≡ acquire_refused doc self.old.journal) }
         ensures kept { OnErr result (self.new ≡ self.old) }
     {

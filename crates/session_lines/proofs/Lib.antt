@@ -1,2 +1,4 @@
 pub mod Indexing
 pub mod Standing
+pub mod Shortest
+pub mod Numbered

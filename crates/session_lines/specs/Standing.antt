@@ -1,9 +1,10 @@
 -- What is known of the lines of a script that was read.
-use Rattle.std.specs.Prelude.{◌≡◌, ◌≤◌, ℕ, true, List, [], ◌∷◌, ◌++◌, length, IfOk, ⊤}
+use Rattle.std.specs.Prelude.{◌≡◌, ◌≤◌, ℕ, ◌+◌, ◌*◌, nat_lt, Bool, true, List, [], ◌∷◌, ◌++◌, length, sum_by, Option, Some, None, IfOk, ⊤}
+use Rattle.std.specs.List.{list_all}
 use Rattle.ot_json.specs.Grammar.{IsWithinLimits}
-use Rattle.session_lines.specs.Script.{may_follow}
+use Rattle.session_lines.specs.Script.{may_follow, session_of}
 use Rattle.session_lines.specs.declared.line.Line.{Line}
-use Rattle.session_lines.specs.declared.line.Line.TheVariants.{Doc, Raw}
+use Rattle.session_lines.specs.declared.line.Line.TheVariants.{Doc, Tick, Raw}
 
 -- the texts, numbers and operations of a line are within their limits
 abbrev pub IsWithin : Line → Type 0
@@ -15,3 +16,20 @@ IsWithin _ = ⊤
 abbrev pub AreStanding : List Line → List Line → Type 0
 AreStanding earlier [] = ⊤
 AreStanding earlier (l ∷ ls) = IsWithin l × (may_follow earlier l ≡ true) × AreStanding (earlier ++ l ∷ []) ls
+
+-- each line that a session does is done by one of so many
+abbrev pub is_one_of : ℕ → Option ℕ → Bool
+is_one_of sessions (Some session) = nat_lt session sessions
+is_one_of sessions None = true
+
+abbrev pub AreBySessions : ℕ → List Line → Type 0
+AreBySessions sessions lines = list_all (λ line. is_one_of sessions (session_of line)) lines ≡ true
+
+-- by how many milliseconds a line moves the clock on
+abbrev pub moved_by : Line → ℕ
+moved_by (Tick session ms) = ms
+moved_by _ = 0
+
+-- lines of a text of so many bytes move the clock on by at most 10^12 milliseconds for each 4 of the bytes, the line feeds counted, one behind the last line too
+abbrev pub AreSlow : ℕ → List Line → Type 0
+AreSlow bytes lines = 4 * sum_by moved_by lines ≤ 1000000000000 * (bytes + 1)

@@ -2,7 +2,7 @@
 
 ghost use Rattle.std.specs.Prelude.{◌≡◌, ◌≢◌, ◌≤◌, ◌^◌, ◌<◌, [], length, Ok, Err, Some, None, IfOk, IfErr, OnOk, option_map};
 ghost use Rattle.serde_json.specs.View.{view};
-ghost use Rattle.session_lines.specs.Standing.{AreStanding};
+ghost use Rattle.session_lines.specs.Standing.{AreBySessions, AreSlow, AreStanding};
 ghost use Rattle.session_lines.specs.Script.{by_command, by_session, next_script, script, script_of, with_line, with_value};
 
 use crate::action_line::read_action_line;
@@ -29,6 +29,8 @@ const MAX_SESSIONS: usize = 256;
 pub fn read_script(alloc: Global, bytes: &[u8]) -> Result<Script, ScriptFault>
     ensures ok { IfOk result (λ read. script_of bytes.now ≡ Ok read) }
     ensures standing { IfOk result (λ read. AreStanding [] read.lines) }
+    ensures numbered { IfOk result (λ read. AreBySessions read.sessions read.lines) }
+    ensures slow { IfOk result (λ read. AreSlow (length bytes.now) read.lines) }
     ensures short { IfOk result (λ read. length read.lines ≤ length bytes.now) }
     ensures fault { IfErr result (λ e. e ≢ ScriptFault.Memory → script_of bytes.now ≡ Err e) }
 {

@@ -180,3 +180,13 @@ returns-clause-looks c =
     let taking = c.in-Ok.ensures.taking in
     let more : entries c.push.new.self ≡ j ++ e ∷ [] = c.push.ensures.entries ∙ ap (λ l. l ++ e ∷ []) c.make_room.ensures.entries in
     (rw more (acquired_look doc token until t.was t.now x u c.in-Ok.look j e w.0 c.in-Some.field-0.now (subst (λ (y : Document). IsLook y u c.in-Ok.look) (same_item x t.was (sym at ∙ t.at)) c.in-Ok.ensures.look) here before locked is seat_is taking (ap (λ t. is_in t (used j)) next ∙ next_unused j legal) c.len-length.ensures.value w.1 named), taking.0, taking.2)
+
+pub returns-clause-cached : goal.returns-clause-cached
+returns-clause-cached c =
+    let s = c.self.inside in
+    let len = c.len.ensures in
+    let low = c.if-at-len.false in
+    let items = s.documents.items in
+    let x = c.index-document.result.now in
+    let at = slice_get_read items (length items) c.args.doc x refl (omega (arith, len, low)) c.index-document.ensures in
+    rw (← c.self.view_is) (c.self.invariant.stands.each c.args.doc x at).cached_is

@@ -1,0 +1,45 @@
+//! What a book is read for at the end of a run: its documents as they stand.
+
+ghost use Rattle.std.specs.Prelude.{◌≡◌, Some};
+ghost use Rattle.journal_rules.specs.Documents.{IsMade, name as name_lem, text as text_lem, version as version_lem};
+ghost use Rattle.journal_rules.specs.Tracking.{cells};
+ghost use Rattle.ranges_tracker.specs.Shown.{shown};
+
+use crate::book::Book;
+use ot_text::DocText;
+use ot_units::Name;
+use ranges_tracker::Ranges;
+
+impl Book {
+    /// The name of a document.
+    pub fn name(&self, doc: u32) -> &Name
+        requires { IsMade doc self.now.journal }
+        ensures { result.now ≡ name_lem doc self.now.journal }
+    {
+        &self.documents[doc as usize].name
+    }
+
+    /// The text of a document at its version.
+    pub fn text(&self, doc: u32) -> &DocText
+        requires { IsMade doc self.now.journal }
+        ensures { text_lem doc self.now.journal ≡ Some result.now }
+    {
+        &self.documents[doc as usize].text
+    }
+
+    /// The tracked changes and the comments of a document at its version.
+    pub fn ranges(&self, doc: u32) -> &Ranges
+        requires { IsMade doc self.now.journal }
+        ensures { result.now ≡ shown (cells doc self.now.journal) }
+    {
+        &self.documents[doc as usize].ranges
+    }
+
+    /// The version of a document: that at which it was made, and one for each update that was applied.
+    pub fn version(&self, doc: u32) -> u64
+        requires { IsMade doc self.now.journal }
+        ensures { result ≡ version_lem doc self.now.journal }
+    {
+        self.documents[doc as usize].window.version()
+    }
+}

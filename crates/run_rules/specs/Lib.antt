@@ -1,0 +1,11 @@
+pub mod Keeping
+pub mod Plain
+pub mod Lines
+pub mod Ending
+pub mod Follows
+pub mod Sessions
+pub mod Counting
+pub mod Threads
+pub mod Report
+pub mod Completing
+pub mod Determined
