@@ -1,7 +1,7 @@
 -- What became of each update: it has one outcome, and an item for it where it was applied.
 use Rattle.std.proofs.Common.{◌≡◌, ◌⊎◌, ℕ, suc, ◌<◌, List, [], ◌∷◌, ◌++◌, length, Bool, true, false, true≢false, not, ◌||◌, refl, sym, ap, ap₂, ◌∙◌, subst, inl, inr, ⊎_elim, arith, eqb, eq-eqb, ne_eqb, append-nil, All}
 use Rattle.std.specs.Prelude.{Option, Some, None, if◌then◌else◌, filter}
-use Rattle.std.proofs.lemmas.Bool.{eqb-true}
+use Rattle.std.proofs.lemmas.Bool.{eqb-true, not-true}
 use Rattle.std.proofs.lemmas.List.Folds.{list_any-append}
 use native.Mathlib.Decide.{ℕ_discrete}
 use Rattle.journal_entries.specs.declared.update.Update.{Update}
@@ -28,6 +28,8 @@ use Rattle.journal_laws.proofs.ClientsOn.{if_true, if_false}
 use Rattle.journal_laws.proofs.Duplicates.{names_item}
 use Rattle.ending_rules.specs.Outcomes.{outcome_of, outcomes}
 use Rattle.ending_rules.specs.Rounds.{has_any}
+use Rattle.journal_laws.proofs.Joins.{is_in-append}
+use Rattle.journal_laws.proofs.Unmade.{update_made}
 
 pub outcomes-push : (t : ℕ) (j : List Entry) (e : Entry) → outcomes t (j ++ e ∷ []) ≡ outcomes t j ++ outcome_of t e.act
 unfolding outcomes
@@ -36,9 +38,6 @@ outcomes-push t j e = gathered-push (λ before e. outcome_of t e.act) j e
 pub outcomes-none : (t : ℕ) → outcomes t [] ≡ []
 unfolding outcomes
 outcomes-none t = refl
-
-pub is_in-append : (x : ℕ) (xs ys : List ℕ) → is_in x (xs ++ ys) ≡ (is_in x xs || is_in x ys)
-is_in-append x xs ys = list_any-append (λ y. eqb y x) xs ys
 
 has_any-append : {A : Type 0} (xs ys : List A) → has_any (xs ++ ys) ≡ (has_any xs || has_any ys)
 has_any-append [] ys = refl
@@ -88,10 +87,6 @@ filter_empty p t (x ∷ xs) e inside = go (p x) refl (λ f i. filter_empty p t x
     go true is later f = absurd (cc)
     go false is later f = rest is (λ i. later f i) (eqb x t) refl
 
-not_true : (b : Bool) → not b ≡ true → b ≡ false
-not_true true e = absurd (true≢false (sym e))
-not_true false e = refl
-
 not_false : (b : Bool) → not b ≡ false → b ≡ true
 not_false true e = refl
 not_false false e = absurd (true≢false e)
@@ -99,7 +94,7 @@ not_false false e = absurd (true≢false e)
 -- what waits has no outcome
 pub waits_open : (d t : ℕ) (j : List Entry) (rest : List ℕ) → waiting d j ≡ t ∷ rest → outcomes t j ≡ []
 waits_open d t j rest first =
-    let unclosed : is_in t (committed j) ≡ false = not_true (is_in t (committed j)) (filter_holds (λ x. not (is_in x (committed j))) t (sent d j) rest first) in
+    let unclosed : is_in t (committed j) ≡ false = not-true (is_in t (committed j)) (filter_holds (λ x. not (is_in x (committed j))) t (sent d j) rest first) in
     has_none (outcomes t j) (sym (committed_has t j) ∙ unclosed)
 
 -- an entry behind an outcome gives no other
@@ -196,31 +191,6 @@ drained_answered j legal t u known none =
     (λ unclosed. absurd (true≢false (sym (sym (ap has_any unclosed) ∙ sym (committed_has t j) ∙ closed))))
     (λ one. one)
     (answered_once t j legal)
-
--- each update is of a document that was made
-pub sent_made : (j : List Entry) → IsLegal j → (t : ℕ) (u : Update) → update_at j t ≡ Some u → IsMade u.doc j
-sent_made = by_last (λ j. (t : ℕ) (u : Update) → update_at j t ≡ Some u → IsMade u.doc j) none more
-  where
-    none : (t : ℕ) (u : Update) → update_at [] t ≡ Some u → IsMade u.doc []
-    none t u e = let f : None ≡ Some u = e in absurd (cc)
-
-    more : (h : List Entry) (e : Entry) → IsLegal h → IsAllowed h e.seat e.act → ((t : ℕ) (u : Update) → update_at h t ≡ Some u → IsMade u.doc h) → (t : ℕ) (u : Update) → update_at (h ++ e ∷ []) t ≡ Some u → IsMade u.doc (h ++ e ∷ [])
-    more h e legal may p t u known = ⊎_elim {C = IsMade u.doc (h ++ e ∷ [])}
-        (λ old. made_stays u.doc h e (p t u old))
-        (λ new. made_stays u.doc h e (fresh new.1 u.client refl))
-        (update_new h e t u known)
-      where
-        fresh : update_of e.act ≡ Some u → (o : Option ℕ) → u.client ≡ o → IsMade u.doc h
-        fresh is None own =
-            let row : IsSending h u None = subst (IsSending h u) own (subst (λ a. IsAllowed h e.seat a) (sent_is e.act u is) may) in row.made
-        fresh is (Some c) own =
-            let r = sent_by_client h e legal may (world h legal) c u is own in
-            let x = well h e legal may (world h legal) c r.0 in
-            subst (λ d. IsMade d h) (sym (doc_is (client c h) r.1)) x.alive.made
-          where
-            doc_is : (s : Client) → Sends c s (clock h) u → u.doc ≡ s.doc
-            doc_is s (Fresh f is) = ap (λ (x : Update). x.doc) is
-            doc_is s (Again g f is) = ap (λ (x : Update). x.doc) is
 
 -- ---- items and outcomes
 abbrev pub HasOutcome : List Entry → Item → Type 0

@@ -19,8 +19,8 @@ use Rattle.journal_laws.proofs.ClientsOn.{if_true, if_false}
 use Rattle.ending_rules.proofs.Shapes.{is_of_drain}
 use Rattle.ending_rules.specs.Drained.{TakesFirst}
 use Rattle.ending_rules.proofs.Drained.{IsFree, IsLoadUnder, IsDrainedUpdate, AreDrainedUpdates}
-use Rattle.ending_rules.proofs.Answered.{is_in-append}
 use Rattle.ending_rules.proofs.Apart.{goes_by}
+use Rattle.journal_laws.proofs.Joins.{is_in-append}
 
 -- ---- the clock
 ticked_grows : (a : Act) (now : ℕ) → now ≤ ticked a now

@@ -20,6 +20,7 @@ use Rattle.ending_rules.specs.Ended.{IsDone, IsStuck, Rests, HasEnded}
 use Rattle.ending_rules.proofs.Answered.{has_none, drained_answered}
 use Rattle.ending_rules.proofs.Stages.{IsSilent, IsVoid, AllAnswered, nothing_ahead, not_sent_now}
 use Rattle.turn_rules.specs.Clients.{is_joined}
+use Rattle.journal_laws.proofs.Updates.{or_false}
 
 rests : (c : ℕ) (j : List Entry) → IsLegal j → AllAnswered c j → (st : (client c j).state ≡ Joined) → mail c j ≡ [] → IsSilent (client c j) ⊎ IsVoid c j (client c j) → Rests c j (client c j)
 rests c j legal answered st none left =
@@ -56,14 +57,9 @@ settles j legal none clients = record {
   clients = λ c st. (let r = clients c st in rests c j legal (λ t u known own. drained_answered j legal t u known (none u.doc)) st r.0 r.1);
 }
 
--- ---- no round is needed
-or_both : (a b : Bool) → (a || b) ≡ false → (a ≡ false) × (b ≡ false)
-or_both true b e = absurd (true≢false e)
-or_both false b e = (refl, e)
-
 none_below : (p : ℕ → Bool) (n : ℕ) → any_below p n ≡ false → (k : ℕ) → k < n → p k ≡ false
 none_below p zero e k lt = absurd (omega arith)
-none_below p (suc n) e k lt = let r = or_both (any_below p n) (p n) e in go r.1 (λ less. none_below p n r.0 k less) (ℕ_discrete k n)
+none_below p (suc n) e k lt = let r = or_false (any_below p n) (p n) e in go r.1 (λ less. none_below p n r.0 k less) (ℕ_discrete k n)
   where
     go : p n ≡ false → (k < n → p k ≡ false) → Dec (k ≡ n) → p k ≡ false
     go last earlier (yes same) = ap p same ∙ last
@@ -71,15 +67,15 @@ none_below p (suc n) e k lt = let r = or_both (any_below p n) (p n) e in go r.1 
 
 pub idle_waits : (clients : ℕ) (j : List Entry) → needs_round clients j ≡ false → (d : ℕ) → d < length (makings j) → waiting d j ≡ []
 idle_waits clients j idle d lt =
-    has_none (waiting d j) (none_below (λ d. has_any (waiting d j)) (length (makings j)) (or_both (any_below (λ d. has_any (waiting d j)) (length (makings j))) (any_below (λ c. is_unfinished c j) clients) idle).0 d lt)
+    has_none (waiting d j) (none_below (λ d. has_any (waiting d j)) (length (makings j)) (or_false (any_below (λ d. has_any (waiting d j)) (length (makings j))) (any_below (λ c. is_unfinished c j) clients) idle).0 d lt)
 
 pub idle_client : (clients : ℕ) (j : List Entry) → needs_round clients j ≡ false → (c : ℕ) → c < clients → (client c j).state ≡ Joined → (mail c j ≡ []) × IsSilent (client c j)
 idle_client clients j idle c lt st =
-    let un : is_unfinished c j ≡ false = none_below (λ c. is_unfinished c j) clients (or_both (any_below (λ d. has_any (waiting d j)) (length (makings j))) (any_below (λ c. is_unfinished c j) clients) idle).1 c lt in
+    let un : is_unfinished c j ≡ false = none_below (λ c. is_unfinished c j) clients (or_false (any_below (λ d. has_any (waiting d j)) (length (makings j))) (any_below (λ c. is_unfinished c j) clients) idle).1 c lt in
     let all : (has_any (mail c j) || has_flight (client c j).flight || has_any (client c j).pending) ≡ false =
     sym (ap (λ s. is_joined s && (has_any (mail c j) || has_flight (client c j).flight || has_any (client c j).pending)) st) ∙ un in
-    let one = or_both (has_any (mail c j) || has_flight (client c j).flight) (has_any (client c j).pending) all in
-    let two = or_both (has_any (mail c j)) (has_flight (client c j).flight) one.0 in
+    let one = or_false (has_any (mail c j) || has_flight (client c j).flight) (has_any (client c j).pending) all in
+    let two = or_false (has_any (mail c j)) (has_flight (client c j).flight) one.0 in
     (has_none (mail c j) two.0, (no_flight (client c j).flight two.1, has_none (client c j).pending one.1))
   where
     no_flight : (f : Option (List Comp)) → has_flight f ≡ false → f ≡ None

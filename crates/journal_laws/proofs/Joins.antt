@@ -35,7 +35,7 @@ or_right : (a b : Bool) → b ≡ true → (a || b) ≡ true
 or_right true b e = refl
 or_right false b e = e
 
-is_in-append : (x : ℕ) (xs ys : List ℕ) → is_in x (xs ++ ys) ≡ (is_in x xs || is_in x ys)
+pub is_in-append : (x : ℕ) (xs ys : List ℕ) → is_in x (xs ++ ys) ≡ (is_in x xs || is_in x ys)
 is_in-append x xs ys = list_any-append (λ y. eqb y x) xs ys
 
 in_one : (x y : ℕ) → is_in x (y ∷ []) ≡ true → x ≡ y

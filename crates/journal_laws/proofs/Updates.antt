@@ -94,7 +94,7 @@ text_at_version d h =
     length-ops [] = refl
     length-ops (x ∷ xs) = let r = length-ops xs in omega (arith, r)
 
-or_false : (a b : Bool) → (a || b) ≡ false → (a ≡ false) × (b ≡ false)
+pub or_false : (a b : Bool) → (a || b) ≡ false → (a ≡ false) × (b ≡ false)
 or_false true b e = absurd (true≢false e)
 or_false false b e = (refl, e)
 

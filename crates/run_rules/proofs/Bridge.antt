@@ -27,11 +27,7 @@ use Rattle.turn_rules.specs.Turns.{Alone}
 use Rattle.run_rules.proofs.Alone.{alone_turn}
 use Rattle.run_rules.proofs.Whole.{whole}
 use Rattle.turn_rules.specs.Clients.{is_joined}
-
--- ---- drains
-both_parts : (a b : Bool) → (a && b) ≡ true → (a ≡ true) × (b ≡ true)
-both_parts true b e = (refl, e)
-both_parts false b e = absurd (true≢false (sym e))
+use Rattle.std.proofs.lemmas.Bool.{and_parts}
 
 module _ (doc : ℕ) where
   abbrev IsOf : Entry → Type 0
@@ -43,7 +39,7 @@ module _ (doc : ℕ) where
   all_of : (acts : List Act) → list_all (is_of_drain doc) acts ≡ true → All IsOf (map at_end acts)
   all_of [] e = All-nil IsOf
   all_of (act ∷ acts) e =
-      let both = both_parts (is_of_drain doc act) (list_all (is_of_drain doc) acts) e in
+      let both = and_parts (is_of_drain doc act) (list_all (is_of_drain doc) acts) e in
       All-cons IsOf (at_end act) (map at_end acts) both.0 (all_of acts both.1)
 
   load_of : (token : Option ℕ) (ready : Bool) (act : Act) → IsLoad doc token ready act → is_of_drain doc act ≡ true

@@ -2,7 +2,7 @@
 use Rattle.std.proofs.Common.{◌≡◌, ◌⊎◌, ℕ, ◌+◌, ◌-◌, ◌<◌, ◌≤◌, zero, suc, ◌&&◌, List, [], ◌∷◌, ◌++◌, Bool, true, false, not, true≢false, refl, sym, ap, ◌∙◌, subst, inl, inr, arith, eq-eqb, append_assoc, append-nil, All}
 use Rattle.std.specs.Prelude.{Option, Some, None, map, filter, get_or, nat_le, nat_lt, if◌then◌else◌}
 use Rattle.std.specs.List.{list_all}
-use Rattle.std.proofs.lemmas.Bool.{cases_lt}
+use Rattle.std.proofs.lemmas.Bool.{cases_lt, and_parts}
 use Rattle.std.proofs.lemmas.Bool.Decides.{nat_tests}
 use Rattle.std.proofs.lemmas.List.Elements.{All-append, All-nil, All-cons, All-weaker}
 use Rattle.expiring_lock.specs.declared.lock.TheConstants.{LOCK_LIFE}
@@ -22,10 +22,6 @@ use Rattle.run_rules.specs.Threads.{Crew, driver_seat, worker_seat, flusher_seat
 use Rattle.turn_rules.specs.Turns.{Alone, Among, entry_by}
 use Rattle.run_rules.proofs.Growing.{is_joining, MayJoin, MayAll, drains_one, flushes, leads_grow}
 
-pub both_parts : (a b : Bool) → (a && b) ≡ true → (a ≡ true) × (b ≡ true)
-both_parts true b e = (refl, e)
-both_parts false b e = absurd (true≢false (sym e))
-
 module _ (sessions : ℕ) where
   abbrev ok : Act → Bool
   ok act = joins_below sessions act
@@ -44,7 +40,7 @@ module _ (sessions : ℕ) where
   numbered_may : (k : ℕ) (lines : List Line) → AreBySessions sessions lines → MayAll ok plain (numbered k lines)
   numbered_may k [] all = tt
   numbered_may k (line ∷ lines) all =
-      let both = both_parts (is_one_of sessions (session_of line)) (list_all (λ l. is_one_of sessions (session_of l)) lines) all in
+      let both = and_parts (is_one_of sessions (session_of line)) (list_all (λ l. is_one_of sessions (session_of l)) lines) all in
       (line_may line both.0, numbered_may (k + 1) lines both.1)
 
   some_may : (p : ℕ × Line → Bool) (lines : List (ℕ × Line)) → MayAll ok plain lines → MayAll ok plain (filter p lines)
@@ -72,7 +68,7 @@ module _ (sessions : ℕ) where
     others : (more : List Entry) → list_all (λ e. not (own e)) more ≡ true → All OwnJoinsOne more
     others [] all = All-nil OwnJoinsOne
     others (e ∷ es) all =
-        let both = both_parts (not (own e)) (list_all (λ e. not (own e)) es) all in
+        let both = and_parts (not (own e)) (list_all (λ e. not (own e)) es) all in
         All-cons OwnJoinsOne e es (λ mine. absurd (true≢false (sym both.0 ∙ ap not mine))) (others es both.1)
 
     among : (a b : List Entry) → Among own a b → Adds a b
@@ -87,7 +83,7 @@ module _ (sessions : ℕ) where
         each : (acts : List Act) → list_all ok acts ≡ true → All OwnJoinsOne (map (entry_by seat line) acts)
         each [] may = All-nil OwnJoinsOne
         each (act ∷ acts) may =
-            let both = both_parts (joins_below sessions act) (list_all ok acts) may in
+            let both = and_parts (joins_below sessions act) (list_all ok acts) may in
             All-cons OwnJoinsOne (entry_by seat line act) (map (entry_by seat line) acts) (λ mine. both.0) (each acts both.1)
 
     by_lines : (Next : List Entry → List Entry → Type 0) → ((a b : List Entry) → Next a b → Adds a b) → (seat : ℕ) (lines : List (ℕ × Line)) → MayAll ok plain lines
@@ -151,11 +147,11 @@ module _ (sessions : ℕ) where
     crew_of : (es : List Entry) → list_all (λ e. is_of_crew crew e.seat) es ≡ true → All (λ e. is_of_crew crew e.seat ≡ true) es
     crew_of [] all = All-nil (λ (e : Entry). is_of_crew crew e.seat ≡ true)
     crew_of (e ∷ es) all =
-        let both = both_parts (is_of_crew crew e.seat) (list_all (λ e. is_of_crew crew e.seat) es) all in
+        let both = and_parts (is_of_crew crew e.seat) (list_all (λ e. is_of_crew crew e.seat) es) all in
         All-cons (λ (e : Entry). is_of_crew crew e.seat ≡ true) e es both.0 (crew_of es both.1)
 
     within : (seat : ℕ) → is_of_crew crew seat ≡ true → (0 < seat) × (seat ≤ flusher_seat crew)
-    within seat is = let both = both_parts (nat_lt 0 seat) (nat_le seat (flusher_seat crew)) is in (above seat both.0, below seat (flusher_seat crew) both.1)
+    within seat is = let both = and_parts (nat_lt 0 seat) (nat_le seat (flusher_seat crew)) is in (above seat both.0, below seat (flusher_seat crew) both.1)
       where
         above : (seat : ℕ) → nat_lt 0 seat ≡ true → 0 < seat
         above seat e = grind (arith, nat_tests)

@@ -2,7 +2,7 @@
 use Rattle.std.proofs.Common.{◌≡◌, ℕ, ◌<◌, ◌≤◌, ◌+◌, ◌==◌, not, List, [], ◌∷◌, ◌++◌, length, Bool, true, false, true≢false, refl, sym, ap, ◌∙◌, subst, arith, append_assoc, append-nil, eq-eqb}
 use Rattle.std.specs.Prelude.{Option, Some, None, map, if◌then◌else◌}
 use Rattle.std.specs.List.{list_all}
-use Rattle.std.proofs.lemmas.Bool.{eqb-true}
+use Rattle.std.proofs.lemmas.Bool.{eqb-true, and_parts}
 use Rattle.std.proofs.lemmas.List.{length-append}
 use Rattle.expiring_lock.specs.declared.lock.TheConstants.{LOCK_LIFE}
 use Rattle.journal_entries.specs.declared.act.Act.{Act}
@@ -21,7 +21,6 @@ use Rattle.run_rules.specs.Keeping.{Preparations}
 use Rattle.run_rules.specs.Lines.{Leads}
 use Rattle.turn_rules.specs.Locking.{acquired}
 use Rattle.turn_rules.specs.Turns.{entry_by}
-use Rattle.run_rules.proofs.Joining.{both_parts}
 use Rattle.run_rules.proofs.OneAlone.{unfailed_there}
 use Rattle.run_rules.proofs.OneLine.{IsUnfailed, leads_same}
 use Rattle.run_rules.proofs.Pinned.{not_below}
@@ -91,7 +90,7 @@ module _ (seat doc token : ℕ) where
   stands_among [] h others legal s = subst Stands (sym (append-nil h)) s
   stands_among (e ∷ es) h others legal s =
       let again : (h ++ e ∷ []) ++ es ≡ h ++ e ∷ es = append_assoc h (e ∷ []) es in
-      let two = both_parts (not (e.seat == seat)) (list_all (λ e. not (e.seat == seat)) es) others in
+      let two = and_parts (not (e.seat == seat)) (list_all (λ e. not (e.seat == seat)) es) others in
       subst Stands again (stands_among es (h ++ e ∷ []) two.1 (subst IsLegal (sym again) legal) (stands_on h e (not_own e two.0) (allowed_next h e es legal) s))
 
 -- so it is behind a turn that took the lock

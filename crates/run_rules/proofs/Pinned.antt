@@ -24,6 +24,7 @@ use Rattle.turn_rules.specs.Flushing.{IsPut}
 use Rattle.turn_rules.specs.Locking.{acquired}
 use Rattle.turn_rules.specs.Turns.{entry_by}
 use Rattle.run_rules.proofs.Growing.{Extends}
+use Rattle.journal_laws.proofs.Updates.{or_false}
 
 -- ---- two legal journals with the same faults
 abbrev pub Pair : List Entry → List Entry → Type 0
@@ -195,11 +196,6 @@ module _ (seat : ℕ) (line : Option ℕ) where
 
   pub put_same : (doc token : ℕ) (x y : Act) (look : List Entry) → IsPut doc token x → IsPut doc token y → AreNext look seat x y → x ≡ y
   put_same doc token x y look p q n = this_same x y (Flushed doc token (version doc look)) (put_is doc token x look p n.one) (put_is doc token y look q n.other) n.shared
-
--- ---- journals without faults have the same
-or_false : (a b : Bool) → (a || b) ≡ false → (a ≡ false) × (b ≡ false)
-or_false false b e = (refl, e)
-or_false true b e = absurd (true≢false e)
 
 next_faultless : (before more j : List Entry) (e : Entry) → j ≡ before ++ e ∷ more → has_fault j ≡ false → is_fault e.act ≡ false
 next_faultless before more j e at none =

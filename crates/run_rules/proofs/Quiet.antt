@@ -27,7 +27,7 @@ use Rattle.turn_rules.specs.Turns.{Alone, entry_by}
 use Rattle.run_rules.proofs.Bridge.{last_rounds}
 use Rattle.run_rules.proofs.Flushed.{IsQuiet, AddsQuiet, quiet_below, flush_makes_none}
 use Rattle.run_rules.proofs.Growing.{MayAll, leads_grow}
-use Rattle.run_rules.proofs.Joining.{both_parts}
+use Rattle.std.proofs.lemmas.Bool.{and_parts}
 
 -- ---- lines
 same : (a : List Entry) → AddsQuiet a a
@@ -54,8 +54,8 @@ by_lines lines last l =
 of_crew : (crew : Crew) (es : List Entry) → list_all (λ e. is_of_crew crew e.seat) es ≡ true → All IsQuiet es
 of_crew crew [] all = All-nil IsQuiet
 of_crew crew (e ∷ es) all =
-    let both = both_parts (is_of_crew crew e.seat) (list_all (λ e. is_of_crew crew e.seat) es) all in
-    let is = both_parts (nat_lt 0 e.seat) (nat_le e.seat (flusher_seat crew)) both.0 in
+    let both = and_parts (is_of_crew crew e.seat) (list_all (λ e. is_of_crew crew e.seat) es) all in
+    let is = and_parts (nat_lt 0 e.seat) (nat_le e.seat (flusher_seat crew)) both.0 in
     All-cons IsQuiet e es (not_first (is_none e.line) e.seat is.0) (of_crew crew es both.1)
   where
     apart : (seat : ℕ) → nat_lt 0 seat ≡ true → (seat == 0) ≡ false

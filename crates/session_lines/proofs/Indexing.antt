@@ -2,7 +2,7 @@
 use Rattle.std.proofs.Common.{◌≡◌, ℕ, List, [], ◌∷◌, ◌++◌, Bool, true, false, ◌&&◌, Option, Some, None, refl, sym, ap, ◌∙◌}
 use Rattle.std.specs.Prelude.{IsTrue, not, if◌then◌else◌}
 use Rattle.std.specs.List.{list_all, filter_map}
-use Rattle.std.proofs.lemmas.Bool.{and_parts}
+use Rattle.std.proofs.lemmas.Bool.{and_parts, not-true}
 use Rattle.std.proofs.lemmas.List.{append-nil}
 use Rattle.std.proofs.lemmas.List.Elements.{filter_map-append}
 use Rattle.std.proofs.lemmas.List.Folds.{list_all-append}
@@ -23,10 +23,6 @@ home_more : (s : ℕ) (lines : List Line) (l : Line) → home_document s (lines 
 home_more s [] l = first_of_none (joined_by s (join_of l))
 home_more s (k ∷ ks) l = ap (first_of (joined_by s (join_of k))) (home_more s ks l) ∙ first_of_assoc (joined_by s (join_of k)) (home_document s ks) (joined_by s (join_of l))
 
-is_new : (b : Bool) → not b ≡ true → b ≡ false
-is_new true e = cc
-is_new false e = refl
-
 documents_one : (l : Line) (o : Option (List ℕ)) → made_document l ≡ o → documents_of (l ∷ []) ≡ filter_map (λ p. p) (o ∷ [])
 documents_one l o e = rw e refl
 
@@ -34,7 +30,7 @@ documents_step : (lines : List Line) (o : Option (List ℕ)) → IsTrue (may_mak
 documents_step lines None h = sym (append-nil (documents_of lines))
 documents_step lines (Some doc) h =
     let few = (and_parts _ _ (and_parts _ _ h).1).1 in
-    ap (λ b. if b then documents_of lines else documents_of lines ++ doc ∷ []) (is_new _ few)
+    ap (λ b. if b then documents_of lines else documents_of lines ++ doc ∷ []) (not-true _ few)
 
 documents_more : (lines : List Line) (l : Line) → IsTrue (may_make lines (made_document l)) → with_optional_name (documents_of lines) (made_document l) ≡ documents_of (lines ++ l ∷ [])
 documents_more lines l h =

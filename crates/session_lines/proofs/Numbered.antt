@@ -3,7 +3,7 @@ use Rattle.std.proofs.Common.{◌≡◌, ℕ, ◌+◌, ◌*◌, ◌<◌, ◌≤�
 use Rattle.std.specs.Prelude.{Option, Some, None, Result, Ok, Err, IfOk, ◌==◌, nat_le, nat_lt, codes, cond, if◌then◌else◌}
 use Rattle.std.specs.List.{list_all, list_any, position_or_len}
 use Rattle.std.specs.Option.{option_and_then}
-use Rattle.std.proofs.lemmas.Bool.{leb-true}
+use Rattle.std.proofs.lemmas.Bool.{leb-true, and_parts}
 use Rattle.std.proofs.lemmas.Bool.Decides.{nat_tests}
 use Rattle.std.proofs.lemmas.List.Sums.{sum_by-append}
 use Rattle.std.proofs.lemmas.List.{length-append}
@@ -28,29 +28,24 @@ use Rattle.session_lines.specs.declared.line.Line.TheVariants.{Tick, Ins, Del, C
 use Rattle.session_lines.specs.declared.script.Script.{Script}
 use Rattle.session_lines.specs.Standing.{AreBySessions, AreSlow, is_one_of, moved_by}
 use Rattle.session_lines.proofs.Shortest.{short_has_not}
-
-both_parts : (a b : Bool) → (a && b) ≡ true → (a ≡ true) × (b ≡ true)
-both_parts true b e = (refl, e)
-both_parts false b e = absurd (true≢false (sym e))
+use Rattle.journal_entries.specs.declared.limits.TheConstants.{MAX_BASE, MAX_RAW_SOURCE}
+use Rattle.session_lines.specs.declared.limits.TheConstants.{MAX_TICK}
 
 -- ---- a line by itself
-abbrev pub longest_tick : ℕ
-longest_tick = 1000000000000
-
 abbrev IsBy : ℕ → Line → Type 0
-IsBy s l = (session_of l ≡ Some s) × (moved_by l ≤ longest_tick)
+IsBy s l = (session_of l ≡ Some s) × (moved_by l ≤ MAX_TICK)
 
 abbrev IsByNone : Line → Type 0
-IsByNone l = (session_of l ≡ None) × (moved_by l ≤ longest_tick)
+IsByNone l = (session_of l ≡ None) × (moved_by l ≤ MAX_TICK)
 
 doc_by : (d : Data) → IfGiven IsByNone (doc_line d)
 doc_by d =
     given_then IsByNone _ (name_at (codes "doc") d) (λ doc. given_then IsByNone _ (name_at (codes "project") d) (λ project.
-    given_then IsByNone _ (number_or_zero 9007199254740991 (codes "v") d) (λ v. given_then IsByNone _ (option_and_then first_text (units_at (codes "text") d)) (λ text. (refl, omega arith)))))
+    given_then IsByNone _ (number_or_zero MAX_BASE (codes "v") d) (λ v. given_then IsByNone _ (option_and_then first_text (units_at (codes "text") d)) (λ text. (refl, omega arith)))))
 
 raw_by : (s : ℕ) (d : Data) → IfGiven (IsBy s) (raw_line s d)
 raw_by s d =
-    given_then (IsBy s) _ (number_at (codes "v") d) (λ v. given_then (IsBy s) _ (number_or_zero 999999 (codes "source") d) (λ source.
+    given_then (IsBy s) _ (number_at (codes "v") d) (λ v. given_then (IsBy s) _ (number_or_zero MAX_RAW_SOURCE (codes "source") d) (λ source.
     given_then (IsBy s) _ (flag_or_false (codes "track") d) (λ track. given_then (IsBy s) _ (name_at (codes "doc") d) (λ doc. given_then (IsBy s) _ (name_at (codes "user") d) (λ user.
     given_then (IsBy s) _ (sources_or_none (codes "dup") d) (λ dup. given_then (IsBy s) _ (get (codes "op") d) (λ op. (refl, omega arith))))))))
 
@@ -59,7 +54,7 @@ del_by s p n true = tt
 del_by s p n false = (refl, omega arith)
 
 action_by : (action : Action) (s : ℕ) (d : Data) → IfGiven (IsBy s) (action_line action s d)
-action_by DoTick s d = given_map_with (λ ms. ms ≤ longest_tick) (IsBy s) (λ (ms : ℕ). Tick s ms) (whole_at longest_tick (codes "ms") d) (whole_given longest_tick (codes "ms") d) (λ ms low. (refl, low))
+action_by DoTick s d = given_map_with (λ ms. ms ≤ MAX_TICK) (IsBy s) (λ (ms : ℕ). Tick s ms) (whole_at MAX_TICK (codes "ms") d) (whole_given MAX_TICK (codes "ms") d) (λ ms low. (refl, low))
 action_by DoRaw s d = raw_by s d
 action_by DoJoin s d = given_then (IsBy s) _ (flag_or_false (codes "track") d) (λ track. given_then (IsBy s) _ (name_at (codes "doc") d) (λ doc. given_then (IsBy s) _ (name_at (codes "user") d) (λ user. (refl, omega arith))))
 action_by DoRejoin s d = (refl, omega arith)
@@ -111,7 +106,7 @@ one_of_more n m (Some s) le e = grind (arith, nat_tests)
 by_more : (n m : ℕ) (lines : List Line) → n ≤ m → AreBySessions n lines → AreBySessions m lines
 by_more n m [] le all = refl
 by_more n m (line ∷ lines) le all =
-    let both = both_parts (is_one_of n (session_of line)) (list_all (λ l. is_one_of n (session_of l)) lines) all in
+    let both = and_parts (is_one_of n (session_of line)) (list_all (λ l. is_one_of n (session_of l)) lines) all in
     ap₂ (λ (p q : Bool). p && q) (one_of_more n m (session_of line) le both.0) (by_more n m lines le both.1)
 
 record IsNumbered (budget : ℕ) (s : Script) : Type 0 where
@@ -119,9 +114,9 @@ record IsNumbered (budget : ℕ) (s : Script) : Type 0 where
   by : AreBySessions (length s.names) s.lines
   slow : 4 * sum_by moved_by s.lines ≤ budget
 
-line_numbered : (budget : ℕ) (lines : List Line) (names : List (List ℕ)) (l : Line) → AreBySessions (length names) lines → 4 * sum_by moved_by lines ≤ budget → is_one_of (length names) (session_of l) ≡ true → moved_by l ≤ longest_tick
-    → IfGiven (IsNumbered (budget + 4 * longest_tick)) (with_line lines names l)
-line_numbered budget lines names l by slow one low = given_where (IsNumbered (budget + 4 * longest_tick)) (may_follow lines l) (script (lines ++ l ∷ []) names) (λ may. record {
+line_numbered : (budget : ℕ) (lines : List Line) (names : List (List ℕ)) (l : Line) → AreBySessions (length names) lines → 4 * sum_by moved_by lines ≤ budget → is_one_of (length names) (session_of l) ≡ true → moved_by l ≤ MAX_TICK
+    → IfGiven (IsNumbered (budget + 4 * MAX_TICK)) (with_line lines names l)
+line_numbered budget lines names l by slow one low = given_where (IsNumbered (budget + 4 * MAX_TICK)) (may_follow lines l) (script (lines ++ l ∷ []) names) (λ may. record {
   count = refl;
   by = list_all-append (λ x. is_one_of (length names) (session_of x)) lines (l ∷ []) ∙ ap₂ (λ (p q : Bool). p && (q && true)) by one;
   slow = let sum = sum_by-append moved_by lines (l ∷ []) in omega (arith, sum, slow, low);
@@ -133,11 +128,11 @@ one_by n s l lt is = ap (is_one_of n) is ∙ below
     below : nat_lt s n ≡ true
     below = grind (arith, nat_tests)
 
-command_numbered : (budget : ℕ) (lines : List Line) (names : List (List ℕ)) (command : Command) (d : Data) → AreBySessions (length names) lines → 4 * sum_by moved_by lines ≤ budget → IfGiven (IsNumbered (budget + 4 * longest_tick)) (by_command lines names command d)
-command_numbered budget lines names DoDoc d by slow = given_with IsByNone (IsNumbered (budget + 4 * longest_tick)) _ (doc_line d) (doc_by d) (λ l none. line_numbered budget lines names l by slow (ap (is_one_of (length names)) none.0) none.1)
-command_numbered budget lines names (BySession action) d by slow = given_then (IsNumbered (budget + 4 * longest_tick)) _ (name_at (codes "as") d) (λ name.
-    given_choice (IsNumbered (budget + 4 * longest_tick)) (nat_le (length (with_name names name)) 256) _ _
-    (given_with (IsBy (number_of_name names name)) (IsNumbered (budget + 4 * longest_tick)) _ (action_line action (number_of_name names name) d) (action_by action (number_of_name names name) d)
+command_numbered : (budget : ℕ) (lines : List Line) (names : List (List ℕ)) (command : Command) (d : Data) → AreBySessions (length names) lines → 4 * sum_by moved_by lines ≤ budget → IfGiven (IsNumbered (budget + 4 * MAX_TICK)) (by_command lines names command d)
+command_numbered budget lines names DoDoc d by slow = given_with IsByNone (IsNumbered (budget + 4 * MAX_TICK)) _ (doc_line d) (doc_by d) (λ l none. line_numbered budget lines names l by slow (ap (is_one_of (length names)) none.0) none.1)
+command_numbered budget lines names (BySession action) d by slow = given_then (IsNumbered (budget + 4 * MAX_TICK)) _ (name_at (codes "as") d) (λ name.
+    given_choice (IsNumbered (budget + 4 * MAX_TICK)) (nat_le (length (with_name names name)) 256) _ _
+    (given_with (IsBy (number_of_name names name)) (IsNumbered (budget + 4 * MAX_TICK)) _ (action_line action (number_of_name names name) d) (action_by action (number_of_name names name) d)
     (λ l is. line_numbered budget lines (with_name names name) l (by_more (length names) (length (with_name names name)) lines (named names name).1 by) slow
     (one_by (length (with_name names name)) (number_of_name names name) l (named names name).0 is.0) is.1)) tt)
 
@@ -145,11 +140,11 @@ or_numbered : (budget : ℕ) (fault : ScriptFault) (o : Option Script) → IfGiv
 or_numbered budget fault None good = tt
 or_numbered budget fault (Some s) good = good
 
-known_numbered : (budget n : ℕ) (s : Script) (d : Data) (o : Option Command) → IsNumbered budget s → IfOk (with_command n s d o) (IsNumbered (budget + 4 * longest_tick))
+known_numbered : (budget n : ℕ) (s : Script) (d : Data) (o : Option Command) → IsNumbered budget s → IfOk (with_command n s d o) (IsNumbered (budget + 4 * MAX_TICK))
 known_numbered budget n s d None was = tt
-known_numbered budget n s d (Some command) was = or_numbered (budget + 4 * longest_tick) _ _ (given_choice (IsNumbered (budget + 4 * longest_tick)) (key_count d == line_keys command d) _ _ (command_numbered budget s.lines s.names command d was.by was.slow) tt)
+known_numbered budget n s d (Some command) was = or_numbered (budget + 4 * MAX_TICK) _ _ (given_choice (IsNumbered (budget + 4 * MAX_TICK)) (key_count d == line_keys command d) _ _ (command_numbered budget s.lines s.names command d was.by was.slow) tt)
 
-name_numbered : (budget n : ℕ) (s : Script) (d : Data) (o : Option (List ℕ)) → IsNumbered budget s → IfOk (with_name_of_command n s d o) (IsNumbered (budget + 4 * longest_tick))
+name_numbered : (budget n : ℕ) (s : Script) (d : Data) (o : Option (List ℕ)) → IsNumbered budget s → IfOk (with_name_of_command n s d o) (IsNumbered (budget + 4 * MAX_TICK))
 name_numbered budget n s d None was = tt
 name_numbered budget n s d (Some name) was = known_numbered budget n s d (command_of name) was
 
@@ -159,17 +154,17 @@ spent budget more (Err fault) le good = tt
 spent budget more (Ok s) le good = let was = good.slow in record { count = good.count; by = good.by; slow = omega (arith, le, was) }
 
 value_numbered : (budget n : ℕ) (s : Script) (line : List ℕ) (o : Option Data) → (length line ≤ 2 → IfGiven (λ d. get (codes "do") d ≡ None) o) → IsNumbered budget s
-    → IfOk (with_value n s o) (IsNumbered (budget + longest_tick * (length line + 1)))
+    → IfOk (with_value n s o) (IsNumbered (budget + MAX_TICK * (length line + 1)))
 value_numbered budget n s line None short was = tt
 value_numbered budget n s line (Some d) short was = known_or_short (nat_le (length line) 2) refl
   where
-    known_or_short : (b : Bool) → nat_le (length line) 2 ≡ b → IfOk (with_value n s (Some d)) (IsNumbered (budget + longest_tick * (length line + 1)))
+    known_or_short : (b : Bool) → nat_le (length line) 2 ≡ b → IfOk (with_value n s (Some d)) (IsNumbered (budget + MAX_TICK * (length line + 1)))
     known_or_short true e =
         let none : text_at (codes "do") d ≡ None = ap (option_and_then as_str) (short (leb-true (length line) 2 e)) in
         rw none tt
     known_or_short false e =
         let long : 3 ≤ length line = grind (arith, nat_tests) in
-        spent (budget + 4 * longest_tick) (budget + longest_tick * (length line + 1)) _ (omega (arith, long)) (name_numbered budget n s d (text_at (codes "do") d) was)
+        spent (budget + 4 * MAX_TICK) (budget + MAX_TICK * (length line + 1)) _ (omega (arith, long)) (name_numbered budget n s d (text_at (codes "do") d) was)
 
 -- ---- the bytes of lines, each with a line feed
 abbrev bytes_of : List (List ℕ) → ℕ
@@ -180,13 +175,13 @@ then_numbered : (budget more_budget : ℕ) (more : Script → Result Script Scri
 then_numbered budget more_budget more (Ok s) good h = h s good
 then_numbered budget more_budget more (Err fault) good h = tt
 
-lines_numbered : (budget n : ℕ) (ls : List (List ℕ)) (s : Script) → IsNumbered budget s → IfOk (with_lines n ls s) (IsNumbered (budget + longest_tick * bytes_of ls))
+lines_numbered : (budget n : ℕ) (ls : List (List ℕ)) (s : Script) → IsNumbered budget s → IfOk (with_lines n ls s) (IsNumbered (budget + MAX_TICK * bytes_of ls))
 lines_numbered budget n [] s was = let w = was.slow in record { count = was.count; by = was.by; slow = omega (arith, w) }
 lines_numbered budget n (line ∷ ls) s was =
-    then_numbered (budget + longest_tick * (length line + 1)) (budget + longest_tick * bytes_of (line ∷ ls)) (with_lines (n + 1) ls) (next_script n s line)
+    then_numbered (budget + MAX_TICK * (length line + 1)) (budget + MAX_TICK * bytes_of (line ∷ ls)) (with_lines (n + 1) ls) (next_script n s line)
     (value_numbered budget n s line (value_of line) (short_has_not (codes "do") line) was)
-    (λ next good. spent (budget + longest_tick * (length line + 1) + longest_tick * bytes_of ls) (budget + longest_tick * bytes_of (line ∷ ls)) _ (omega arith)
-    (lines_numbered (budget + longest_tick * (length line + 1)) (n + 1) ls next good))
+    (λ next good. spent (budget + MAX_TICK * (length line + 1) + MAX_TICK * bytes_of ls) (budget + MAX_TICK * bytes_of (line ∷ ls)) _ (omega arith)
+    (lines_numbered (budget + MAX_TICK * (length line + 1)) (n + 1) ls next good))
 
 -- a byte more brings one more, or two where it opens the last line
 onto_bytes : (x n : ℕ) (ls : List (List ℕ)) → bytes_of ls ≤ n → 1 ≤ n → bytes_of (onto_first x ls) ≤ n + 1
@@ -204,8 +199,8 @@ cut_bytes (x ∷ xs) =
     let k = onto_bytes x (length xs + 1) (lines_of xs) h (omega arith) in
     choice_bytes (x == 10) ([] ∷ lines_of xs) (onto_first x (lines_of xs)) (length (x ∷ xs) + 1) (omega (arith, h)) (omega (arith, k))
 
-numbered : (bytes : List ℕ) (s : Script) → script_of bytes ≡ Ok s → IsNumbered (0 + longest_tick * bytes_of (lines_of bytes)) s
-numbered bytes s is = subst (λ (r : Result Script ScriptFault). IfOk r (IsNumbered (0 + longest_tick * bytes_of (lines_of bytes)))) is (lines_numbered 0 1 (lines_of bytes) (script [] []) (record { count = refl; by = refl; slow = omega arith }))
+numbered : (bytes : List ℕ) (s : Script) → script_of bytes ≡ Ok s → IsNumbered (0 + MAX_TICK * bytes_of (lines_of bytes)) s
+numbered bytes s is = subst (λ (r : Result Script ScriptFault). IfOk r (IsNumbered (0 + MAX_TICK * bytes_of (lines_of bytes)))) is (lines_numbered 0 1 (lines_of bytes) (script [] []) (record { count = refl; by = refl; slow = omega arith }))
 
 -- what a script that was read promises of its sessions and of its ticks
 pub read_by : (bytes : List ℕ) (s : Script) → script_of bytes ≡ Ok s → AreBySessions s.sessions s.lines

@@ -24,20 +24,23 @@ use Rattle.session_lines.specs.declared.fault.ScriptFault.{ScriptFault}
 use Rattle.session_lines.specs.declared.line.Line.{Line}
 use Rattle.session_lines.specs.declared.line.Line.TheVariants.{Tick, Ins, Del, Com, Drain, Hold, Flush, Unload, Hand}
 use Rattle.session_lines.specs.declared.script.Script.{Script}
+use Rattle.ot_op.specs.declared.limits.TheConstants.{MAX_TEXT_UNITS}
+use Rattle.journal_entries.specs.declared.limits.TheConstants.{MAX_BASE, MAX_RAW_SOURCE}
+use Rattle.session_lines.specs.declared.limits.TheConstants.{MAX_TICK}
 
 -- ---- a line by itself
 
 number_given : (max : ℕ) (k : List ℕ) (d : Data) → IfGiven (λ n. n ≤ max) (number_or_zero max k d)
 number_given max k d = given_choice (λ n. n ≤ max) (has_key k d) (whole_at max k d) (Some 0) (whole_given max k d) (omega arith)
 
-text_given : (us : List ℕ) → IfGiven (λ (t : List ℕ). length t ≤ 2097152) (first_text us)
-text_given us = given_where (λ (t : List ℕ). length t ≤ 2097152) (nat_le (length us) 2097152) us (λ is. leb-true (length us) 2097152 is)
+text_given : (us : List ℕ) → IfGiven (λ (t : List ℕ). length t ≤ MAX_TEXT_UNITS) (first_text us)
+text_given us = given_where (λ (t : List ℕ). length t ≤ MAX_TEXT_UNITS) (nat_le (length us) MAX_TEXT_UNITS) us (λ is. leb-true (length us) MAX_TEXT_UNITS is)
 
 doc_within : (d : Data) → IfGiven IsWithin (doc_line d)
 doc_within d =
     given_then IsWithin _ (name_at (codes "doc") d) (λ doc. given_then IsWithin _ (name_at (codes "project") d) (λ project.
-    given_with (λ v. v ≤ 9007199254740991) IsWithin _ (number_or_zero 9007199254740991 (codes "v") d) (number_given 9007199254740991 (codes "v") d) (λ v low.
-    given_with (λ (t : List ℕ). length t ≤ 2097152) IsWithin _ _ (given_then (λ (t : List ℕ). length t ≤ 2097152) first_text (units_at (codes "text") d) text_given) (λ text short. (short, low)))))
+    given_with (λ v. v ≤ MAX_BASE) IsWithin _ (number_or_zero MAX_BASE (codes "v") d) (number_given MAX_BASE (codes "v") d) (λ v low.
+    given_with (λ (t : List ℕ). length t ≤ MAX_TEXT_UNITS) IsWithin _ _ (given_then (λ (t : List ℕ). length t ≤ MAX_TEXT_UNITS) first_text (units_at (codes "text") d) text_given) (λ text short. (short, low)))))
 
 raw_given : (d : Data) → IfOk (raw_operation d) IsWithinLimits
 unfolding raw_operation
@@ -45,7 +48,7 @@ raw_given d = operation_within d
 
 raw_within : (s : ℕ) (d : Data) → IfGiven IsWithin (raw_line s d)
 raw_within s d =
-    given_then IsWithin _ (number_at (codes "v") d) (λ v. given_with (λ n. n ≤ 999999) IsWithin _ (number_or_zero 999999 (codes "source") d) (number_given 999999 (codes "source") d) (λ source low.
+    given_then IsWithin _ (number_at (codes "v") d) (λ v. given_with (λ n. n ≤ MAX_RAW_SOURCE) IsWithin _ (number_or_zero MAX_RAW_SOURCE (codes "source") d) (number_given MAX_RAW_SOURCE (codes "source") d) (λ source low.
     given_then IsWithin _ (flag_or_false (codes "track") d) (λ track. given_then IsWithin _ (name_at (codes "doc") d) (λ doc. given_then IsWithin _ (name_at (codes "user") d) (λ user.
     given_then IsWithin _ (sources_or_none (codes "dup") d) (λ dup. given_then IsWithin _ (get (codes "op") d) (λ op. (low, raw_given op))))))))
 
@@ -54,7 +57,7 @@ del_within s p n true = tt
 del_within s p n false = tt
 
 action_within : (action : Action) (s : ℕ) (d : Data) → IfGiven IsWithin (action_line action s d)
-action_within DoTick s d = given_map IsWithin (λ (ms : ℕ). Tick s ms) (whole_at 1000000000000 (codes "ms") d) (λ ms. tt)
+action_within DoTick s d = given_map IsWithin (λ (ms : ℕ). Tick s ms) (whole_at MAX_TICK (codes "ms") d) (λ ms. tt)
 action_within DoRaw s d = raw_within s d
 action_within DoJoin s d = given_then IsWithin _ (flag_or_false (codes "track") d) (λ track. given_then IsWithin _ (name_at (codes "doc") d) (λ doc. given_then IsWithin _ (name_at (codes "user") d) (λ user. tt)))
 action_within DoRejoin s d = tt

@@ -13,6 +13,9 @@ use Rattle.session_lines.specs.declared.command.Action.{Action}
 use Rattle.session_lines.specs.declared.command.Action.TheVariants.{Tick as DoTick, Raw as DoRaw, Join as DoJoin, Rejoin as DoRejoin, Leave as DoLeave, Send as DoSend, Resend as DoResend, Recv as DoRecv, Sync as DoSync, Finish as DoFinish, Ins as DoIns, Del as DoDel, Com as DoCom, Drain as DoDrain, Hold as DoHold, Flush as DoFlush, Unload as DoUnload, Hand as DoHand}
 use Rattle.session_lines.specs.declared.line.Line.{Line}
 use Rattle.session_lines.specs.declared.line.Line.TheVariants.{Doc, Tick, Raw, Join, Rejoin, Leave, Send, Resend, Recv, Sync, Finish, Ins, Del, Com, Drain, Hold, Flush, Unload, Hand}
+use Rattle.ot_op.specs.declared.limits.TheConstants.{MAX_TEXT_UNITS}
+use Rattle.journal_entries.specs.declared.limits.TheConstants.{MAX_BASE, MAX_RAW_SOURCE}
+use Rattle.session_lines.specs.declared.limits.TheConstants.{MAX_TICK}
 
 abbrev pub and_then : {A B : Type 0} → Option A → (A → Option B) → Option B
 and_then o f = option_and_then f o
@@ -49,16 +52,16 @@ line_keys (BySession action) d = action_keys action d
 
 -- a text of a document
 abbrev pub first_text : List ℕ → Option (List ℕ)
-first_text us = if nat_le (length us) 2097152 then Some us else None
+first_text us = if nat_le (length us) MAX_TEXT_UNITS then Some us else None
 
 abbrev pub doc_line : Data → Option Line
 doc_line d =
     and_then (name_at (codes "doc") d) (λ doc. and_then (name_at (codes "project") d) (λ project.
-    and_then (number_or_zero 9007199254740991 (codes "v") d) (λ v. and_then (option_and_then first_text (units_at (codes "text") d)) (λ text.
+    and_then (number_or_zero MAX_BASE (codes "v") d) (λ v. and_then (option_and_then first_text (units_at (codes "text") d)) (λ text.
     Some (Doc doc project text v)))))
 
 abbrev pub tick_line : ℕ → Data → Option Line
-tick_line s d = option_map (λ ms. Tick s ms) (whole_at 1000000000000 (codes "ms") d)
+tick_line s d = option_map (λ ms. Tick s ms) (whole_at MAX_TICK (codes "ms") d)
 
 -- what reading the operation of a raw line gives
 unfoldable pub raw_operation : Data → Result (List Comp) FormFault
@@ -66,7 +69,7 @@ raw_operation d = operation_of d
 
 abbrev pub raw_line : ℕ → Data → Option Line
 raw_line s d =
-    and_then (number_at (codes "v") d) (λ v. and_then (number_or_zero 999999 (codes "source") d) (λ source. and_then (flag_or_false (codes "track") d) (λ track.
+    and_then (number_at (codes "v") d) (λ v. and_then (number_or_zero MAX_RAW_SOURCE (codes "source") d) (λ source. and_then (flag_or_false (codes "track") d) (λ track.
     and_then (name_at (codes "doc") d) (λ doc. and_then (name_at (codes "user") d) (λ user. and_then (sources_or_none (codes "dup") d) (λ dup.
     and_then (get (codes "op") d) (λ op. Some (Raw s doc user source dup track v (raw_operation op)))))))))
 

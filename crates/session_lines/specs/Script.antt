@@ -16,6 +16,7 @@ use Rattle.session_lines.specs.declared.fault.ScriptFault.TheVariants.{Json, For
 use Rattle.session_lines.specs.declared.line.Line.{Line}
 use Rattle.session_lines.specs.declared.line.Line.TheVariants.{Doc, Tick, Raw, Join, Rejoin, Leave, Send, Resend, Recv, Sync, Finish, Ins, Del, Com, Drain, Hold, Flush, Unload, Hand}
 use Rattle.session_lines.specs.declared.script.Script.{Script}
+use Rattle.session_lines.specs.declared.limits.TheConstants.{MAX_DOCUMENTS}
 
 -- the number of the session that does a line; a doc line is done by none
 abbrev pub session_of : Line → Option ℕ
@@ -68,7 +69,7 @@ home_document s (l ∷ ls) = first_of (joined_by s (join_of l)) (home_document s
 -- a document is made before any other command, under a new name, and only 1,000 are
 abbrev pub may_make : List Line → Option (List ℕ) → Bool
 may_make earlier None = true
-may_make earlier (Some doc) = list_all makes_document earlier && (nat_lt (length earlier) 1000 && not (list_any (same_name doc) (documents_of earlier)))
+may_make earlier (Some doc) = list_all makes_document earlier && (nat_lt (length earlier) MAX_DOCUMENTS && not (list_any (same_name doc) (documents_of earlier)))
 
 abbrev pub is_home : Option (List ℕ) → List ℕ → Bool
 is_home None doc = true

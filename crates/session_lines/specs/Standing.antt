@@ -5,11 +5,14 @@ use Rattle.ot_json.specs.Grammar.{IsWithinLimits}
 use Rattle.session_lines.specs.Script.{may_follow, session_of}
 use Rattle.session_lines.specs.declared.line.Line.{Line}
 use Rattle.session_lines.specs.declared.line.Line.TheVariants.{Doc, Tick, Raw}
+use Rattle.ot_op.specs.declared.limits.TheConstants.{MAX_TEXT_UNITS}
+use Rattle.journal_entries.specs.declared.limits.TheConstants.{MAX_BASE, MAX_RAW_SOURCE}
+use Rattle.session_lines.specs.declared.limits.TheConstants.{MAX_TICK}
 
 -- the texts, numbers and operations of a line are within their limits
 abbrev pub IsWithin : Line → Type 0
-IsWithin (Doc doc project text v) = (length text ≤ 2097152) × (v ≤ 9007199254740991)
-IsWithin (Raw session doc user source dup track v op) = (source ≤ 999999) × IfOk op IsWithinLimits
+IsWithin (Doc doc project text v) = (length text ≤ MAX_TEXT_UNITS) × (v ≤ MAX_BASE)
+IsWithin (Raw session doc user source dup track v op) = (source ≤ MAX_RAW_SOURCE) × IfOk op IsWithinLimits
 IsWithin _ = ⊤
 
 -- each line is within its limits, and may stand behind those before it
@@ -32,4 +35,4 @@ moved_by _ = 0
 
 -- lines of a text of so many bytes move the clock on by at most 10^12 milliseconds for each 4 of the bytes, the line feeds counted, one behind the last line too
 abbrev pub AreSlow : ℕ → List Line → Type 0
-AreSlow bytes lines = 4 * sum_by moved_by lines ≤ 1000000000000 * (bytes + 1)
+AreSlow bytes lines = 4 * sum_by moved_by lines ≤ MAX_TICK * (bytes + 1)

@@ -7,14 +7,12 @@ ghost use Rattle.session_lines.specs.Line.{action_line, hand_line, join_line, ti
 use crate::command::Action;
 use crate::edit_lines::{read_com, read_del, read_ins};
 use crate::fields::{flag_or_no, name_of, u32_of};
+use crate::limits::MAX_TICK;
 use crate::line::Line;
 use crate::raw_line::read_raw;
 use json_lines::number_within;
 use serde_json::Value;
 use std::alloc::{AllocError, Global};
-
-/// The greatest step of the clock, in milliseconds.
-const MAX_TICK: u64 = 1_000_000_000_000;
 
 /// The line of an action that a session does, or `None` where its fields are no such line's.
 pub(crate) fn read_action_line(

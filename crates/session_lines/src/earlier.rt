@@ -3,6 +3,7 @@
 ghost use Rattle.std.specs.Prelude.{◌≡◌, ℕ, nat_eq, [], ◌∷◌, ◌++◌, Some, IfOk, OnOk, IsTrue};
 ghost use Rattle.indexmap.specs.IndexMap.{get};
 
+use crate::limits::MAX_DOCUMENTS;
 use crate::line::Line;
 use crate::notes::{note_document, note_home};
 use crate::script::Lines;
@@ -10,9 +11,6 @@ use indexmap::{IndexMap, IndexSet};
 use ot_units::Name;
 use std::alloc::{AllocError, Global};
 use std::marker::Model;
-
-/// The greatest number of documents.
-const MAX_DOCUMENTS: usize = 1_000;
 
 /// The lines so far, with an index of them. Contracts see the lines.
 #[derive(Drop)]

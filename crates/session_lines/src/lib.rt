@@ -12,6 +12,7 @@ mod edit_lines;
 mod fault;
 mod fields;
 mod keys;
+mod limits;
 mod line;
 mod names;
 mod notes;
@@ -20,6 +21,7 @@ mod read;
 mod script;
 
 pub use fault::ScriptFault;
+pub use limits::{MAX_DOCUMENTS, MAX_SESSIONS, MAX_TICK};
 pub use line::Line;
 pub use names::Names;
 pub use read::read_script;

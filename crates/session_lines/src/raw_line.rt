@@ -6,14 +6,12 @@ ghost use Rattle.session_lines.specs.Line.{raw_line, raw_operation};
 
 use crate::fields::{flag_or_no, name_of, number_or_0, sources_of};
 use crate::line::Line;
+use journal_entries::MAX_RAW_SOURCE;
 use json_lines::number_of;
 use ot_json::{OpFault, read_op};
 use ot_op::{FormFault, Op};
 use serde_json::Value;
 use std::alloc::{AllocError, Global};
-
-/// The greatest source that a raw line may name.
-const MAX_RAW_SOURCE: u64 = 999_999;
 
 /// The raw line of a session, or `None` where its fields are no such line's. An operation out of
 /// form is no fault of the line.

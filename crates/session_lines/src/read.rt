@@ -4,6 +4,7 @@ ghost use Rattle.std.specs.Prelude.{◌≡◌, ◌≢◌, ◌≤◌, ◌^◌, �
 ghost use Rattle.serde_json.specs.View.{view};
 ghost use Rattle.session_lines.specs.Standing.{AreBySessions, AreSlow, AreStanding};
 ghost use Rattle.session_lines.specs.Script.{by_command, by_session, next_script, script, script_of, with_line, with_value};
+ghost use Rattle.session_lines.specs.declared.limits.TheConstants.{MAX_SESSIONS};
 
 use crate::action_line::read_action_line;
 use crate::command::{Action, Command, read_command};
@@ -12,15 +13,13 @@ use crate::earlier::Earlier;
 use crate::fault::ScriptFault;
 use crate::fields::name_of;
 use crate::keys::count_line_keys;
+use crate::limits::MAX_SESSIONS;
 use crate::line::Line;
 use crate::names::Names;
 use crate::script::Script;
 use json_lines::{count_keys, first_line, read_value, text_of};
 use serde_json::Value;
 use std::alloc::{AllocError, Global};
-
-/// The greatest number of sessions.
-const MAX_SESSIONS: usize = 256;
 
 /// The script that a text is, or its first bad line.
 ///
@@ -66,9 +65,9 @@ fn read_line(
     earlier: Earlier,
     line: &[u8],
 ) -> Result<Earlier, ScriptFault>
-    requires { length names.old ≤ 256 }
+    requires { length names.old ≤ MAX_SESSIONS }
     ensures ok { IfOk result (λ more. next_script n (script earlier names.old) line.now ≡ Ok (script more names.new)) }
-    ensures few { OnOk result (length names.new ≤ 256) }
+    ensures few { OnOk result (length names.new ≤ MAX_SESSIONS) }
     ensures fault { IfErr result (λ e. e ≢ ScriptFault.Memory → next_script n (script earlier names.old) line.now ≡ Err e) }
 {
     match read_value(alloc, line) {
@@ -85,9 +84,9 @@ fn read_command_line(
     earlier: Earlier,
     value: &Value,
 ) -> Result<Earlier, ScriptFault>
-    requires { length names.old ≤ 256 }
+    requires { length names.old ≤ MAX_SESSIONS }
     ensures ok { IfOk result (λ more. with_value n (script earlier names.old) (Some (view value.now)) ≡ Ok (script more names.new)) }
-    ensures few { OnOk result (length names.new ≤ 256) }
+    ensures few { OnOk result (length names.new ≤ MAX_SESSIONS) }
     ensures fault { IfErr result (λ e. e ≢ ScriptFault.Memory → with_value n (script earlier names.old) (Some (view value.now)) ≡ Err e) }
 {
     let Some(name) = text_of(value, "do") else {
@@ -113,9 +112,9 @@ fn read_fields(
     earlier: Earlier,
     value: &Value,
 ) -> Result<Option<Earlier>, AllocError>
-    requires { length names.old ≤ 256 }
+    requires { length names.old ≤ MAX_SESSIONS }
     ensures value { IfOk result (λ read. option_map (λ more. script more names.new) read ≡ by_command earlier names.old command (view value.now)) }
-    ensures few { IfOk result (λ read. read ≢ None → length names.new ≤ 256) }
+    ensures few { IfOk result (λ read. read ≢ None → length names.new ≤ MAX_SESSIONS) }
 {
     match command {
         Command::Doc => match read_doc(alloc, value)? {
@@ -134,7 +133,7 @@ fn read_action(
     value: &Value,
 ) -> Result<Option<Earlier>, AllocError>
     ensures value { IfOk result (λ read. option_map (λ more. script more names.new) read ≡ by_command earlier names.old (Command.BySession action) (view value.now)) }
-    ensures few { IfOk result (λ read. read ≢ None → length names.new ≤ 256) }
+    ensures few { IfOk result (λ read. read ≢ None → length names.new ≤ MAX_SESSIONS) }
 {
     let Some(name) = name_of(alloc, value, "as")? else {
         return Ok(None);
