@@ -1,0 +1,6 @@
+pub mod Joining
+pub mod Splices
+pub mod Edits
+pub mod Blocking
+pub mod Slicing
+pub mod Lining

@@ -1,0 +1,10 @@
+use Rattle.std.proofs.Common.{◌≡◌, ◌+◌, length}
+use Rattle.ot_text.specs.Lists.{joined}
+use Rattle.ot_text.proofs.Lining.{feed}
+use Rattle.ot_text.proofs.lines.line_length.Given as goal
+
+abbrev pub invariant-loop-part : goal.invariant-loop-part
+invariant-loop-part l = l.before + feed (joined l.left) ≡ feed (joined l.initial.left)
+
+abbrev pub decreases-loop-part : goal.decreases-loop-part
+decreases-loop-part l = length l.left
