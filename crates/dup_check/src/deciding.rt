@@ -10,8 +10,7 @@ ghost use Rattle.dup_check.specs.Snapshot.{stamp_of, numbered, outcome_of, IsSma
 use crate::scanned::{Scanned, scan};
 use crate::{Decision, Snapshot};
 use journal_entries::{Cause, MAX_AGE};
-use ot_op::{ApplyFault, MAX_TEXT_UNITS, Op, apply};
-use ot_text::DocText;
+use ot_op::{MAX_TEXT_UNITS, Op};
 use ranges_tracker::{Ranges, Stamp, track_op};
 use std::alloc::{AllocError, Global};
 
@@ -69,7 +68,7 @@ fn fit(alloc: Global, look: &Snapshot, op: Op) -> Result<Decision, AllocError>
     ensures decided { IfOk result (λ d. outcome_of look.now.version d ≡ fitted look.now.version op (applied_all look.now.text op)) }
     ensures applies { IfOk result (λ d. Applies look.now d) }
 {
-    let Some(text) = applied_to_copy(alloc, &look.text, &op)? else {
+    let Some(text) = look.text.applied(alloc, &op)? else {
         return Ok(Decision::Refuse(Cause::Mismatch));
     };
     let len = text.len();
@@ -78,18 +77,6 @@ fn fit(alloc: Global, look: &Snapshot, op: Op) -> Result<Decision, AllocError>
     }
     let ranges = track_all(alloc, look, &op)?;
     Ok(Decision::Apply { op, text, ranges })
-}
-
-// What an operation makes of a text, which stays.
-fn applied_to_copy(alloc: Global, text: &DocText, op: &Op) -> Result<Option<DocText>, AllocError>
-    ensures { IfOk result (λ made. made ≡ applied_all text.now op.now) }
-{
-    let mut made = text.copy(alloc)?;
-    match apply(&mut made, op) {
-        Ok(()) => Ok(Some(made)),
-        Err(ApplyFault::Mismatch(_)) => Ok(None),
-        Err(ApplyFault::Memory) => Err(AllocError),
-    }
 }
 
 // What an operation that applies makes of the ranges that were looked at.

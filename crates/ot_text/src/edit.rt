@@ -119,7 +119,11 @@ pub(crate) fn put_patch(
 }
 
 /// The patch that takes the part out.
-pub(crate) fn cut_patch(blocks: &mut Vec<Block>, at: usize, len: usize) -> Result<BlockPatch, AllocError>
+pub(crate) fn cut_patch(
+    blocks: &mut Vec<Block>,
+    at: usize,
+    len: usize,
+) -> Result<BlockPatch, AllocError>
     requires few { length (joined blocks.old.items) < 2 ^ 64 }
     requires blocks { AreBlocks blocks.old.items }
     requires inside { at + len ≤ length (joined (joined blocks.old.items)) }

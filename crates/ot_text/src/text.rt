@@ -1,19 +1,20 @@
 //! `Text`, a text in chunks.
 
-ghost use Rattle.std.specs.Prelude.{◌≡◌, ◌↔◌, ◌≤◌, ◌<◌, ◌+◌, ◌*◌, All, IsNone, IfSome, length, IfOk};
+ghost use Rattle.std.specs.Prelude.{◌≡◌, ◌↔◌, ◌≤◌, ◌<◌, ◌+◌, ◌*◌, All, IsNone, IfSome, [], length, IfOk};
 ghost use Rattle.ot_units.specs.Text.{part_at};
+ghost use Rattle.ot_op.specs.Apply.{applied_all};
 ghost use Rattle.ot_parts.specs.Lines.{lines_of, joined_lines};
 ghost use Rattle.ot_text.specs.Lists.{joined};
 ghost use Rattle.ot_text.specs.Chunks.{IsChunk};
 ghost use Rattle.ot_text.specs.Part.{part_within};
 ghost use Rattle.ot_text.specs.Texts.{IsKept};
 
-use crate::OpenText;
 use crate::block::{Block, gather, share_all};
 use crate::hole::cut_into;
 use crate::lines::{TextLines, lines_within};
 use crate::parts::{TextParts, parts_within, units_of};
-use crate::patch;
+use crate::{OpenText, patch};
+use ot_op::{ApplyFault, Op, apply};
 use ot_units::Units;
 use std::alloc::{AllocError, Global};
 use std::marker::Model;
@@ -44,6 +45,16 @@ impl Text {
         ensures { result ≡ joined (joined blocks.items) }
     {
         Text { blocks, len }
+    }
+
+    /// A text without units. Takes no memory.
+    pub fn new(alloc: Global) -> Text
+        ensures { result ≡ [] }
+    {
+        Text {
+            blocks: Vec::new(alloc),
+            len: 0,
+        }
     }
 
     /// A text of these units.
@@ -121,9 +132,23 @@ impl Text {
     pub fn lines(&self) -> TextLines<'_>
         ensures lines { result ≡ lines_of self.now }
         ensures joined { joined_lines result ≡ self.now }
-            ensures at_least_one { 0 < length result }
+        ensures at_least_one { 0 < length result }
     {
         lines_within(self.blocks.as_slice(), self.len)
+    }
+
+    /// What an operation makes of the text, or `None` exactly where it doesn't apply. The text stays as
+    /// it is.
+    pub fn applied(&self, alloc: Global, op: &Op) -> Result<Option<Text>, AllocError>
+        ensures { IfOk result (λ made. made ≡ applied_all self.now op.now) }
+    {
+        let copy = self.copy(alloc)?;
+        let mut made = copy.open();
+        match apply(&mut made, op) {
+            Ok(()) => Ok(Some(made.close())),
+            Err(ApplyFault::Mismatch(_)) => Ok(None),
+            Err(ApplyFault::Memory) => Err(AllocError),
+        }
     }
 
     /// The text, to be edited.
