@@ -88,9 +88,10 @@ fn fit(alloc: Global, look: &Snapshot, op: Op) -> Result<Decision, AllocError>
 fn applied_to_copy(alloc: Global, text: &DocText, op: &Op) -> Result<Option<DocText>, AllocError>
     ensures { IfOk result (λ made. made ≡ applied_all text.now op.now) }
 {
-    let mut made = text.copy(alloc)?;
+    let copy = text.copy(alloc)?;
+    let mut made = copy.open();
     match apply(&mut made, op) {
-        Ok(()) => Ok(Some(made)),
+        Ok(()) => Ok(Some(made.close())),
         Err(ApplyFault::Mismatch(_)) => Ok(None),
         Err(ApplyFault::Memory) => Err(AllocError),
     }
