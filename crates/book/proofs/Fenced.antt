@@ -1,7 +1,8 @@
 -- Under a token that stands, a document is what a look under this token was.
-use Rattle.std.proofs.Common.{◌≡◌, ℕ, ◌+◌, List, ◌∷◌, ◌++◌, length, map, Bool, true, false, true≢false, not, refl, sym, ap, ap₂, ◌∙◌, subst, eqb, All}
+use Rattle.std.proofs.Common.{◌≡◌, ℕ, ◌+◌, List, [], ◌∷◌, ◌++◌, append-nil, append_assoc, length, map, Bool, true, false, true≢false, not, refl, sym, ap, ap₂, ◌∙◌, subst, eqb, All}
 use Rattle.std.specs.Prelude.{Option, Some, None, if◌then◌else◌}
 use Rattle.std.proofs.lemmas.Bool.{eqb-true}
+use Rattle.std.proofs.lemmas.List.Elements.{All-append}
 use Rattle.ranges_tracker.specs.Cells.{plain_row}
 use Rattle.ranges_tracker.specs.Shown.{shown}
 use Rattle.expiring_lock.specs.declared.refusal.Stale.{Stale}
@@ -20,13 +21,13 @@ use Rattle.journal_rules.specs.Tracking.{cells, tracked}
 use Rattle.journal_rules.proofs.Fencing.{fenced}
 use Rattle.journal_rules.proofs.Legality.{legal_front}
 use Rattle.journal_rules.proofs.Lists.{some_same}
-use Rattle.journal_rules.proofs.Waits.{update_stays}
+use Rattle.journal_rules.proofs.Waits.{all_none, update_stays}
 use Rattle.turn_rules.specs.Locking.{staleness}
 use Rattle.book.specs.declared.document.Document.{Document}
-use Rattle.book.specs.Looking.{IsDecided, IsLook, IsOf, window_of}
+use Rattle.book.specs.Looking.{IsDecided, IsLook, IsLookAt, IsNoCommit, IsOf, window_of}
 use Rattle.book.specs.Passing.{past_or_none}
 use Rattle.book.specs.Standing.{IsDocument, past_of}
-use Rattle.book.proofs.Acquirings.{known_more, known_same, last_known, unused_more}
+use Rattle.book.proofs.Acquirings.{IsKnown, known_more, known_same, last_known, unused_behind, unused_more}
 use Rattle.book.proofs.Locking.{window_is}
 use Rattle.book.proofs.Looking.{decision_is}
 use Rattle.book.proofs.Settling.{outcome_is}
@@ -59,6 +60,28 @@ under d token j none = by (last_acquiring d j) refl none
     by (Some a) is e =
         let t = tells (eqb a.token token) (not (is_in a.token (released j))) (Other a.token) (sym (ap (λ o. tested o (released j) token) is) ∙ e) in
         record { acquiring = a; held = record { last = is; standing = flipped (is_in a.token (released j)) t.1 }; token_is = eqb-true a.token token t.0 }
+
+-- what was looked at is a look of the journal at once
+pub begins : (look : Snapshot) (j : List Entry) → IsLookAt j look → IsOf look j
+begins look j looks = record { early = j; more = []; journal_is = sym (append-nil j); looks = looks; unused = all_none (λ (e : Entry). is_in look.token (used_by e.act) ≡ false) }
+
+-- and stays one behind entries that don't commit it
+pub stays : (look : Snapshot) (j more : List Entry) → IsOf look j → IsLegal (j ++ more) → All (IsNoCommit look) more → IsOf look (j ++ more)
+stays look j more of legal all = record {
+  early = of.early;
+  more = of.more ++ more;
+  journal_is = ap (λ k. k ++ more) of.journal_is ∙ append_assoc of.early of.more more;
+  looks = of.looks;
+  unused = All-append (λ (e : Entry). is_in look.token (used_by e.act) ≡ false) of.more more of.unused
+      (unused_behind look of.looks.acquiring more j legal here of.looks.token_is of.looks.seat_is all);
+}
+  where
+    low : IsLegal (of.early ++ of.more)
+    low = subst IsLegal of.journal_is (legal_front j more legal)
+
+    here : IsKnown of.looks.acquiring j
+    here = subst (λ (k : List Entry). IsKnown of.looks.acquiring k) (sym of.journal_is)
+        (known_more of.looks.acquiring of.more of.early (last_known look.doc of.early (legal_front of.early of.more low) of.looks.acquiring of.looks.last))
 
 module _ (look : Snapshot) (j : List Entry) (legal : IsLegal j) (of : IsOf look j) (stands : staleness look.doc look.token j ≡ None) where
   abbrev pub d : ℕ

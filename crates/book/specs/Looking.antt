@@ -31,7 +31,6 @@ pub record IsLook (old : Document) (u : Update) (look : Snapshot) : Type 0 where
 
 -- an applied operation takes its text, its ranges and its place in the window
 pub record TakesApplied (old : Document) (look : Snapshot) (op : List Comp) (text : List ℕ) (ranges : List Change × List Comment) (new : Document) : Type 0 where
-  pub name_is : new.name ≡ old.name
   pub text_is : new.text ≡ text
   pub ranges_are : new.ranges ≡ ranges
   pub window_is : new.window ≡ pushed old.window (record { source = look.update.source; op = op })

@@ -13,7 +13,7 @@ ghost use Rattle.book.specs.Looking.{CanDecide, IsDecided, IsLookAt, IsOf};
 
 use crate::book::{Book, entry_of};
 use crate::document::Taking;
-use crate::documents::{check, let_go, settle, take, unqueue, update_at};
+use crate::documents::update_at;
 use crate::faults::{AcquireFault, By, CommitFault, Prepared};
 use crate::room::make_room;
 use dup_check::Snapshot;
@@ -31,10 +31,9 @@ impl Book {
         ensures kept { OnErr result (self.new ≡ self.old) }
     {
         let at = doc as usize;
-        if at >= self.documents.len() {
+        let Some(document) = self.documents.get(at) else {
             return Err(AcquireFault::NoDoc);
-        }
-        let document = &self.documents[at];
+        };
         let Some(&ticket) = document.waiting.front() else {
             return Err(AcquireFault::Empty);
         };
@@ -59,7 +58,7 @@ impl Book {
         let Ok(sum) = make_room(&mut self.journal, self.owed, 2) else {
             return Err(AcquireFault::Memory);
         };
-        let until = take(&mut self.documents, at, self.moment, token, by.seat);
+        let until = self.documents.take(at, self.moment, token, by.seat);
         self.journal
             .push(entry_of(by, Act::Acquired { doc, token, until }));
         self.tokens = token;
@@ -86,7 +85,7 @@ impl Book {
         if at >= self.documents.len() {
             return Err(CommitFault::Stale(never_given(token)));
         }
-        if let Some(stale) = check(&self.documents, at, token) {
+        if let Some(stale) = self.documents.check(at, token) {
             return Err(CommitFault::Stale(stale));
         }
         let Ok(op) = prepared.copy_op(self.alloc) else {
@@ -94,7 +93,7 @@ impl Book {
         };
         // No journal is so long that a version could pass 2^64.
         let _length = self.journal.len();
-        let outcome = settle(&mut self.documents, at, prepared, op);
+        let outcome = self.documents.settle(at, prepared, op);
         self.journal.push(entry_of(
             by,
             Act::Committed {
@@ -126,10 +125,10 @@ impl Book {
         if at >= self.documents.len() {
             return Err(never_given(token));
         }
-        if let Some(stale) = check(&self.documents, at, token) {
+        if let Some(stale) = self.documents.check(at, token) {
             return Err(stale);
         }
-        unqueue(&mut self.documents, at);
+        self.documents.unqueue(at);
         let outcome = Outcome::Refused(cause);
         self.journal.push(entry_of(
             by,
@@ -155,11 +154,11 @@ impl Book {
         if at >= self.documents.len() {
             return Err(never_given(token));
         }
-        if let Some(stale) = check(&self.documents, at, token) {
+        if let Some(stale) = self.documents.check(at, token) {
             return Err(stale);
         }
-        let more = self.documents[at].waiting.len() > 0;
-        let_go(&mut self.documents, at, token);
+        let more = self.waiting(doc) > 0;
+        self.documents.let_go(at, token);
         self.journal
             .push(entry_of(by, Act::Released { doc, token }));
         self.owed -= 1;
