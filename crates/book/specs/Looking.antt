@@ -97,3 +97,10 @@ pub record IsOf (look : Snapshot) (journal : List Entry) : Type 0 where
   pub journal_is : journal ≡ early ++ more
   pub looks : IsLookAt early look
   pub unused : All (λ e. is_in look.token (used_by e.act) ≡ false) more
+
+-- the journal has gone on from the look, which may have been committed
+pub record IsSince (look : Snapshot) (journal : List Entry) : Type 0 where
+  pub early : List Entry
+  pub more : List Entry
+  pub journal_is : journal ≡ early ++ more
+  pub looks : IsLookAt early look
