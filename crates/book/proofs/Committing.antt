@@ -15,19 +15,29 @@ use Rattle.book.specs.declared.document.Document.{Document}
 use Rattle.book.specs.Looking.{IsDecided, IsOf, IsSettled}
 use Rattle.book.specs.Standing.{AreDocuments, Turns}
 use Rattle.book.specs.Shown.{IsBook}
-use Rattle.book.proofs.Fenced.{first, holds, named, still, still_decided, unused}
-use Rattle.book.proofs.Locking.{settled_book}
+use Rattle.journal_rules.proofs.Fencing.{acquired_made}
+use Rattle.book.proofs.Fenced.{first, holds, named, still, still_decided, under, unused}
+use Rattle.book.proofs.Locking.{at_within, settled_book}
 use Rattle.book.proofs.Settling.{becomes}
 
 -- what becomes of the update by the journal as it is
 pub decided_now : (j : List Entry) (documents : List Document) (x : Document) (look : Snapshot) (decision : Decision) → AreDocuments documents j → slice_get documents look.doc ≡ Some x → IsOf look j → staleness look.doc look.token j ≡ None → IsDecided look decision → outcome_of look.version decision ≡ decided j look.doc look.update
 decided_now j documents x look decision were at of stands by = still_decided look j were.legal of stands x decision (were.each look.doc x at) by
 
-pub committed_book : (before after : Journaled) (documents documents' : List Document) (now tokens owed drivers seat : ℕ) (look : Snapshot) (decision : Decision) (e : Entry)
-    → IsBook before documents now tokens owed drivers → entries after ≡ entries before ++ e ∷ [] → spare after + 1 ≡ spare before
+-- the same of the documents, wherever the document stands
+pub decided_here : (j : List Entry) (documents : List Document) (look : Snapshot) (decision : Decision) → AreDocuments documents j → IsOf look j → staleness look.doc look.token j ≡ None → IsDecided look decision → outcome_of look.version decision ≡ decided j look.doc look.update
+decided_here j documents look decision were of stands by =
+    let u = under look.doc look.token j stands in
+    let made = acquired_made look.doc j were.legal u.acquiring u.held.last in
+    let c = were.count in
+    let x = at_within documents look.doc (omega (arith, made, c)) in
+    decided_now j documents x.0 look decision were x.1 of stands by
+
+pub committed_book : {names names' : List (List ℕ)} (before after : Journaled) (documents documents' : List Document) (now tokens owed drivers seat : ℕ) (look : Snapshot) (decision : Decision) (e : Entry)
+    → IsBook before names documents now tokens owed drivers → names' ≡ names → entries after ≡ entries before ++ e ∷ [] → spare after + 1 ≡ spare before
     → e.seat ≡ seat → seat ≡ look.seat → e.act ≡ Committed look.doc look.token look.ticket (outcome_of look.version decision)
-    → IsOf look (entries before) → staleness look.doc look.token (entries before) ≡ None → IsDecided look decision → Turns look.doc (IsSettled look decision) documents documents' → IsBook after documents' now tokens (owed - 1) drivers
-committed_book before after documents documents' now tokens owed drivers seat look decision e was more less seat_is own is of stands by t =
+    → IsOf look (entries before) → staleness look.doc look.token (entries before) ≡ None → IsDecided look decision → Turns look.doc (IsSettled look decision) documents documents' → IsBook after names' documents' now tokens (owed - 1) drivers
+committed_book before after documents documents' now tokens owed drivers seat look decision e was called more less seat_is own is of stands by t =
     let j = entries before in
     let legal = was.stands.legal in
     let x = was.stands.each look.doc t.was t.at in
@@ -40,7 +50,7 @@ committed_book before after documents documents' now tokens owed drivers seat lo
       first = f;
       ends = inl (record { update = look.update; named = named look j legal of stands; outcome_is = still_decided look j legal of stands t.was decision x by; cached_is = x.cached_is });
     } in
-    settled_book before after documents documents' now tokens owed drivers look.doc look.token look.ticket look.seat outcome look.update _ e was more less (seat_is ∙ own) is may f (named look j legal of stands)
+    settled_book before after documents documents' now tokens owed drivers look.doc look.token look.ticket look.seat outcome look.update _ e was called more less (seat_is ∙ own) is may f (named look j legal of stands)
     t (becomes t.was look.update look (still look j legal of stands t.was x) decision t.now by.applies t.is.takes) t.is.lock_is t.is.ticket t.is.waiting_is
 
 -- the version of a document has room to grow

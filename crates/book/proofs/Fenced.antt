@@ -1,7 +1,8 @@
 -- Under a token that stands, a document is what a look under this token was.
-use Rattle.std.proofs.Common.{◌≡◌, ℕ, ◌+◌, List, ◌∷◌, ◌++◌, length, map, Bool, true, false, true≢false, not, refl, sym, ap, ap₂, ◌∙◌, subst, eqb, All}
+use Rattle.std.proofs.Common.{◌≡◌, ℕ, ◌+◌, List, [], ◌∷◌, ◌++◌, append-nil, append_assoc, length, map, Bool, true, false, true≢false, not, refl, sym, ap, ap₂, ◌∙◌, subst, inl, eqb, All}
 use Rattle.std.specs.Prelude.{Option, Some, None, if◌then◌else◌}
 use Rattle.std.proofs.lemmas.Bool.{eqb-true}
+use Rattle.std.proofs.lemmas.List.Elements.{All-append}
 use Rattle.ranges_tracker.specs.Cells.{plain_row}
 use Rattle.ranges_tracker.specs.Shown.{shown}
 use Rattle.expiring_lock.specs.declared.refusal.Stale.{Stale}
@@ -20,13 +21,15 @@ use Rattle.journal_rules.specs.Tracking.{cells, tracked}
 use Rattle.journal_rules.proofs.Fencing.{fenced}
 use Rattle.journal_rules.proofs.Legality.{legal_front}
 use Rattle.journal_rules.proofs.Lists.{some_same}
-use Rattle.journal_rules.proofs.Waits.{update_stays}
+use Rattle.journal_rules.proofs.Waits.{all_none, update_stays}
 use Rattle.turn_rules.specs.Locking.{staleness}
 use Rattle.book.specs.declared.document.Document.{Document}
-use Rattle.book.specs.Looking.{IsDecided, IsLook, IsOf, window_of}
+use Rattle.book.specs.Looking.{IsDecided, IsLook, IsLookAt, IsNoCommit, IsOf, IsSince, window_of}
+use Rattle.book.specs.Calls.{MayRefuse}
 use Rattle.book.specs.Passing.{past_or_none}
+use Rattle.journal_entries.specs.declared.update.Cause.TheVariants.{Memory as WantsMemory}
 use Rattle.book.specs.Standing.{IsDocument, past_of}
-use Rattle.book.proofs.Acquirings.{known_more, known_same, last_known, unused_more}
+use Rattle.book.proofs.Acquirings.{IsKnown, known_more, known_same, last_known, unused_behind, unused_more}
 use Rattle.book.proofs.Locking.{window_is}
 use Rattle.book.proofs.Looking.{decision_is}
 use Rattle.book.proofs.Settling.{outcome_is}
@@ -60,42 +63,78 @@ under d token j none = by (last_acquiring d j) refl none
         let t = tells (eqb a.token token) (not (is_in a.token (released j))) (Other a.token) (sym (ap (λ o. tested o (released j) token) is) ∙ e) in
         record { acquiring = a; held = record { last = is; standing = flipped (is_in a.token (released j)) t.1 }; token_is = eqb-true a.token token t.0 }
 
-module _ (look : Snapshot) (j : List Entry) (legal : IsLegal j) (of : IsOf look j) (stands : staleness look.doc look.token j ≡ None) where
-  abbrev pub d : ℕ
-  d = look.doc
+-- what was looked at is a look of the journal at once
+pub begins : (look : Snapshot) (j : List Entry) → IsLookAt j look → IsOf look j
+begins look j looks = record { early = j; more = []; journal_is = sym (append-nil j); looks = looks; unused = all_none (λ (e : Entry). is_in look.token (used_by e.act) ≡ false) }
 
+-- and stays one behind entries that don't commit it
+pub stays : (look : Snapshot) (j more : List Entry) → IsOf look j → IsLegal (j ++ more) → All (IsNoCommit look) more → IsOf look (j ++ more)
+stays look j more of legal all = record {
+  early = of.early;
+  more = of.more ++ more;
+  journal_is = ap (λ k. k ++ more) of.journal_is ∙ append_assoc of.early of.more more;
+  looks = of.looks;
+  unused = All-append (λ (e : Entry). is_in look.token (used_by e.act) ≡ false) of.more more of.unused
+      (unused_behind look of.looks.acquiring more j legal here of.looks.token_is of.looks.seat_is all);
+}
+  where
+    low : IsLegal (of.early ++ of.more)
+    low = subst IsLegal of.journal_is (legal_front j more legal)
+
+    here : IsKnown of.looks.acquiring j
+    here = subst (λ (k : List Entry). IsKnown of.looks.acquiring k) (sym of.journal_is)
+        (known_more of.looks.acquiring of.more of.early (last_known look.doc of.early (legal_front of.early of.more low) of.looks.acquiring of.looks.last))
+
+abbrev pub since_of : (look : Snapshot) (j : List Entry) → IsOf look j → IsSince look j
+since_of look j of = record { early = of.early; more = of.more; journal_is = of.journal_is; looks = of.looks }
+
+pub since_more : (look : Snapshot) (j more : List Entry) → IsSince look j → IsSince look (j ++ more)
+since_more look j more since = record {
+  early = since.early;
+  more = since.more ++ more;
+  journal_is = ap (λ k. k ++ more) since.journal_is ∙ append_assoc since.early since.more more;
+  looks = since.looks;
+}
+
+-- while the token of a look stands, the document's acquiring is that of the look
+module _ (look : Snapshot) (j : List Entry) (legal : IsLegal j) (since : IsSince look j) (stands : staleness look.doc look.token j ≡ None) where
+  now : IsUnder look.doc look.token j
+  now = under look.doc look.token j stands
+
+  legal_on : IsLegal (since.early ++ since.more)
+  legal_on = subst IsLegal since.journal_is legal
+
+  same_acquiring : since.looks.acquiring ≡ now.acquiring
+  same_acquiring =
+      known_same since.looks.acquiring now.acquiring (since.early ++ since.more)
+      (known_more since.looks.acquiring since.more since.early (last_known look.doc since.early (legal_front since.early since.more legal_on) since.looks.acquiring since.looks.last))
+      (last_known look.doc (since.early ++ since.more) legal_on now.acquiring (sym (ap (last_acquiring look.doc) since.journal_is) ∙ now.held.last))
+      (since.looks.token_is ∙ sym now.token_is)
+
+  pub last_is : last_acquiring look.doc j ≡ Some since.looks.acquiring
+  last_is = now.held.last ∙ ap (λ (x : Acquiring). Some x) (sym same_acquiring)
+
+  pub token_holds : Holds look.seat look.doc look.token j
+  token_holds = record { acquiring = now.acquiring; held = now.held; token_is = now.token_is; seat_is = ap (λ (x : Acquiring). x.seat) (sym same_acquiring) ∙ since.looks.seat_is }
+
+module _ (look : Snapshot) (j : List Entry) (legal : IsLegal j) (of : IsOf look j) (stands : staleness look.doc look.token j ≡ None) where
   abbrev pub early : List Entry
   early = of.early
 
   abbrev pub a : Acquiring
   a = of.looks.acquiring
 
-  now : IsUnder d look.token j
-  now = under d look.token j stands
-
-  legal_on : IsLegal (early ++ of.more)
-  legal_on = subst IsLegal of.journal_is legal
-
-  same_acquiring : a ≡ now.acquiring
-  same_acquiring =
-      known_same a now.acquiring (early ++ of.more)
-      (known_more a of.more early (last_known d early (legal_front early of.more legal_on) a of.looks.last))
-      (last_known d (early ++ of.more) legal_on now.acquiring (sym (ap (last_acquiring d) of.journal_is) ∙ now.held.last))
-      (of.looks.token_is ∙ sym now.token_is)
-
   pub holds : Holds look.seat look.doc look.token j
-  holds = record { acquiring = now.acquiring; held = now.held; token_is = now.token_is; seat_is = ap (λ (x : Acquiring). x.seat) (sym same_acquiring) ∙ of.looks.seat_is }
+  holds = token_holds look j legal (since_of look j of) stands
 
   pub unused : is_in look.token (used j) ≡ false
   unused = ap (λ k. is_in look.token (used k)) of.journal_is ∙ unused_more look.token of.more early of.looks.unused of.unused
 
   pub fence : IsSameOf look.doc of.early j
-  fence = subst (λ (k : List Entry). IsSameOf d early k) (sym of.journal_is) (fenced early of.more d a legal_on of.looks.last ends none)
+  fence = subst (λ (k : List Entry). IsSameOf look.doc of.early k) (sym of.journal_is)
+      (fenced of.early of.more look.doc of.looks.acquiring (subst IsLegal of.journal_is legal) of.looks.last (sym (ap (last_acquiring look.doc) of.journal_is) ∙ last_is look j legal (since_of look j of) stands) none)
     where
-      ends : last_acquiring d (early ++ of.more) ≡ Some a
-      ends = sym (ap (last_acquiring d) of.journal_is) ∙ now.held.last ∙ ap (λ (x : Acquiring). Some x) (sym same_acquiring)
-
-      none : All (λ (e : Entry). is_in a.token (used_by e.act) ≡ false) of.more
+      none : All (λ (e : Entry). is_in of.looks.acquiring.token (used_by e.act) ≡ false) of.more
       none = subst (λ t. All (λ (e : Entry). is_in t (used_by e.act) ≡ false) of.more) (sym of.looks.token_is) of.unused
 
   pub named : update_at j look.ticket ≡ Some look.update
@@ -104,13 +143,13 @@ module _ (look : Snapshot) (j : List Entry) (legal : IsLegal j) (of : IsOf look 
   pub first : waiting look.doc j ≡ look.ticket ∷ (of.looks.rest ++ fence.more)
   first = fence.first_is look.ticket of.looks.rest of.looks.first
 
-  text_same : text d j ≡ text d early
+  text_same : text look.doc j ≡ text look.doc early
   text_same = ap₂ (λ (m : Option Making) (l : List Item). replayed (first_in m) (map (λ (i : Item). i.op) l)) fence.making_is fence.applied_is
 
-  cells_same : cells d j ≡ cells d early
+  cells_same : cells look.doc j ≡ cells look.doc early
   cells_same = ap₂ (λ (m : Option Making) (l : List Item). tracked (plain_row (first_in m)) l) fence.making_is fence.applied_is
 
-  window_same : window_of d j ≡ window_of d early
+  window_same : window_of look.doc j ≡ window_of look.doc early
   window_same = ap₂ (λ (m : Option Making) (l : List Item). record { base = base_in m; version = base_in m + length l; last = recent (map past_of l) }) fence.making_is fence.applied_is
 
   -- the document as it stands is what was looked at
@@ -124,11 +163,15 @@ module _ (look : Snapshot) (j : List Entry) (legal : IsLegal j) (of : IsOf look 
     update_is = refl;
   }
     where
-      window : x.window ≡ window_of d early
-      window = window_is d x j is ∙ window_same
+      window : x.window ≡ window_of look.doc early
+      window = window_is look.doc x j is ∙ window_same
 
   -- so the decision by the look is that of the journal
   pub still_decided : (x : Document) (decision : Decision) → IsDocument look.doc x j → IsDecided look decision → outcome_of look.version decision ≡ decided j look.doc look.update
   still_decided x decision is by =
       outcome_is x look.update look (still x is) decision (outcome_of look.version decision) refl by.outcome_is
-      ∙ decision_is d x j look.update is.text_is is.window_is
+      ∙ decision_is look.doc x j look.update is.text_is is.window_is
+
+  -- so its update may be refused for want of memory
+  pub may_refuse : MayRefuse j look.seat look.doc look.token look.ticket WantsMemory
+  may_refuse = record { holds = holds; unused = unused; rest = of.looks.rest ++ fence.more; first = first; cause_is = inl refl }

@@ -1,8 +1,6 @@
 -- The documents of a book after one entry more.
-use Rattle.std.proofs.Common.{◌≡◌, ◌≢◌, ◌⊎◌, inl, inr, ℕ, zero, suc, ◌+◌, ◌-◌, ◌^◌, ◌≤◌, ◌<◌, List, [], ◌∷◌, ◌++◌, length, true, false, not, cond, slice_set, refl, sym, ap, ap₂, ◌∙◌, subst, arith, eqb, eq-eqb, ne_eqb, append-nil, length-append}
-use Rattle.std.specs.Prelude.{slice_get, position, Option, Some, None, nat_lt, if◌then◌else◌, ⊤}
-use Rattle.std.specs.List.{position_or_len}
-use Rattle.std.specs.Str.{bytes_eq}
+use Rattle.std.proofs.Common.{◌≡◌, ◌≢◌, ◌⊎◌, inl, inr, ℕ, zero, suc, ◌≤◌, ◌<◌, List, [], ◌∷◌, ◌++◌, length, true, false, slice_set, refl, sym, ap, ap₂, ◌∙◌, subst, arith, eqb, eq-eqb, ne_eqb, append-nil, length-append}
+use Rattle.std.specs.Prelude.{slice_get, Option, Some, None, if◌then◌else◌, ⊤}
 use Rattle.std.proofs.lemmas.Option.{slice_get_within}
 use Rattle.std.proofs.lemmas.List.{length-set}
 use Rattle.std.proofs.lemmas.Bool.Decides.{eqb_tells}
@@ -11,14 +9,14 @@ use Rattle.journal_entries.specs.declared.update.Outcome.{Outcome}
 use Rattle.journal_entries.specs.declared.act.Act.{Act}
 use Rattle.journal_entries.specs.declared.act.Act.TheVariants.{Made, Ticked, Sent, Malformed, Acquired, Committed, Released, Declined, Closed}
 use Rattle.journal_entries.specs.declared.act.Entry.{Entry}
-use Rattle.journal_rules.specs.Documents.{IsMade, Making, making_of, makings, name_in, is_named, number_in, number_of, item_of, items_by, applied_list, sends, ticket_of, waiting, update_of, update_at}
+use Rattle.journal_rules.specs.Documents.{IsMade, Making, making_of, makings, item_of, items_by, applied_list, sends, ticket_of, waiting, update_of, update_at}
 use Rattle.journal_rules.specs.Keeping.{cached_by, cached}
 use Rattle.journal_rules.specs.Locks.{Acquiring, acquired_by, last_acquiring, next_token, released_by, released}
 use Rattle.journal_rules.specs.Legal.{IsAllowed, IsLegal, IsRaw}
 use Rattle.journal_rules.proofs.Pushing.{makings-push, makings-none, applied_list-push, cached-push}
 use Rattle.journal_rules.proofs.Legality.{seam, last_or, legal_push}
 use Rattle.journal_rules.proofs.Fencing.{acquired_made}
-use Rattle.journal_laws.proofs.Unmade.{unmade_waits, unmade_applied, version_low}
+use Rattle.journal_laws.proofs.Unmade.{unmade_waits, unmade_applied}
 use Rattle.journal_laws.proofs.Updates.{update_new}
 use Rattle.journal_rules.proofs.Waits.{one_if, committed_below, update_within, waiting-more, waiting-committed, waiting-committed_other}
 use Rattle.book.specs.declared.document.Document.{Document}
@@ -232,7 +230,7 @@ never_acquired d j legal high = by (last_acquiring d j) refl
 pub unmade_lock : (d : ℕ) (j : List Entry) → IsLegal j → length (makings j) ≤ d → lock_of d j ≡ record { last = 0; until = 0; seat = 0; held = false }
 unmade_lock d j legal high = ap (λ o. lock_in o (released j)) (never_acquired d j legal high)
 
-pub kept_made : (documents : List Document) (new : Document) (j : List Entry) (e : Entry) (doc : ℕ) (name project first : List ℕ) (base : ℕ) → e.act ≡ Made doc name project first base → IsAllowed j e.seat (Made doc name project first base) → length documents < 1000 → IsNew new name first base → AreDocuments documents j → AreDocuments (documents ++ new ∷ []) (j ++ e ∷ [])
+pub kept_made : (documents : List Document) (new : Document) (j : List Entry) (e : Entry) (doc : ℕ) (name project first : List ℕ) (base : ℕ) → e.act ≡ Made doc name project first base → IsAllowed j e.seat (Made doc name project first base) → length documents < 1000 → IsNew new first base → AreDocuments documents j → AreDocuments (documents ++ new ∷ []) (j ++ e ∷ [])
 kept_made documents new j e doc name project first base is may few is_new were = record {
   legal = legal_push j e were.legal (subst (IsAllowed j e.seat) (sym is) may);
   few = let n = length-append documents (new ∷ []) in omega (arith, n, few);
@@ -270,21 +268,6 @@ kept_made documents new j e doc name project first base is may few is_new were =
         let caches : cached d (j ++ e ∷ []) ≡ true = cached-push d j e ∙ ap (λ a. cached_by d a (cached d j)) is ∙ ap (λ b. if b then true else cached d j) (eq-eqb doc d (may.next ∙ sym at)) in
         subst (λ (x : Document). IsDocument d x (j ++ e ∷ [])) (sym t.1) (made_new d new (j ++ e ∷ []) m here none idle locks caches may.short is_new)
 
--- ---- the document of a name has the same number in the book as in the journal
-same_place : (name : List ℕ) (documents : List Document) (ms : List Making) → length documents ≡ length ms → ((d : ℕ) (document : Document) → slice_get documents d ≡ Some document → document.name ≡ name_in (slice_get ms d)) → position_or_len (λ (x : Document). bytes_eq name x.name) documents ≡ position_or_len (is_named name) ms
-same_place name [] [] count same = refl
-same_place name [] (m ∷ ms) count same = absurd (omega (arith, count))
-same_place name (x ∷ xs) [] count same = absurd (omega (arith, count))
-same_place name (x ∷ xs) (m ∷ ms) count same =
-    let rest = same_place name xs ms (omega (arith, count)) (λ d document at. same (suc d) document at) in
-    ap₂ (λ (n : List ℕ) (k : ℕ). cond (not (bytes_eq name n)) (1 + k) 0) (same 0 x refl) rest
-
-pub found_in : (name : List ℕ) (documents : List Document) (ms : List Making) → length documents ≡ length ms → ((d : ℕ) (document : Document) → slice_get documents d ≡ Some document → document.name ≡ name_in (slice_get ms d)) → position (λ (x : Document). bytes_eq name x.name) documents ≡ number_in name ms
-found_in name documents ms count same = ap₂ (λ (n k : ℕ). if nat_lt n k then Some n else None) (same_place name documents ms count same) count
-
-pub found_on : (name : List ℕ) (documents : List Document) (j : List Entry) → AreDocuments documents j → position (λ (x : Document). bytes_eq name x.name) documents ≡ number_of name j
-found_on name documents j were = found_in name documents (makings j) were.count (λ d document at. (were.each d document at).name_is)
-
 -- no documents
 pub kept_none : AreDocuments [] []
 kept_none = record {
@@ -294,7 +277,3 @@ kept_none = record {
   each = λ d document at. absurd (cc);
   raw = λ t u is. (let lt = update_within [] t u is in absurd (omega (arith, lt)));
 }
-
--- a version has room for one more
-pub version_fits : (doc : ℕ) (document : Document) (documents : List Document) (j : List Entry) → AreDocuments documents j → IsDocument doc document j → length j < 2 ^ 63 → document.window.version < 2 ^ 64 - 1
-version_fits doc document documents j were was short = let low = version_low doc j were.legal in let v = was.window_is.version_is in omega (arith, low, v, short)

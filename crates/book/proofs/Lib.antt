@@ -7,6 +7,7 @@ pub mod Settling
 pub mod Owed
 pub mod Tokens
 pub mod Acquirings
+pub mod Holders
 pub mod Keeping
 pub mod Booking
 pub mod Locking

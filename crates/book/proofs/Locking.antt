@@ -43,7 +43,7 @@ use Rattle.book.specs.Calls.{stale_in, MayRefuse, acquire_refused, refused_of, r
 use Rattle.book.proofs.Lists.{same_item}
 use Rattle.book.proofs.Owed.{owed_set, owed_least}
 use Rattle.book.proofs.Keeping.{Passes, kept_set, here_acquired, here_released, here_committed, unmade_lock}
-use Rattle.book.proofs.Booking.{push_book, unsent}
+use Rattle.book.proofs.Booking.{no_name, push_book, unsent}
 
 -- ---- what the lock answers is what the journal says
 stale_as : (o : Option Acquiring) (tokens : List ℕ) (token : ℕ) → stale_in (lock_in o tokens) token ≡ (if eqb (token_in o) token then (if is_held_in o tokens then None else Some Ended) else Some (Other (token_in o)))
@@ -103,11 +103,11 @@ may_acquire d now until x j made is now_is until_is free = record {
 }
 
 -- ---- the lock was acquired
-pub acquired_book : (before mid after : Journaled) (documents documents' : List Document) (now tokens owed drivers sum doc until seat : ℕ) (e : Entry)
-    → IsBook before documents now tokens owed drivers → entries mid ≡ entries before → (sum ≡ owed + 2) × (sum ≤ spare mid) → entries after ≡ entries mid ++ e ∷ [] → spare after + 1 ≡ spare mid
+pub acquired_book : {names names' : List (List ℕ)} (before mid after : Journaled) (documents documents' : List Document) (now tokens owed drivers sum doc until seat : ℕ) (e : Entry)
+    → IsBook before names documents now tokens owed drivers → names' ≡ names → entries mid ≡ entries before → (sum ≡ owed + 2) × (sum ≤ spare mid) → entries after ≡ entries mid ++ e ∷ [] → spare after + 1 ≡ spare mid
     → e.seat ≡ seat → e.act ≡ Acquired doc (tokens + 1) until → IsAcquiring (entries before) doc (tokens + 1) until
-    → Turns doc (IsLocked (record { last = tokens + 1; until = until; seat = seat; held = true })) documents documents' → IsBook after documents' now (tokens + 1) (sum - 1) drivers
-acquired_book before mid after documents documents' now tokens owed drivers sum doc until seat e was same enough more less seat_is is may t =
+    → Turns doc (IsLocked (record { last = tokens + 1; until = until; seat = seat; held = true })) documents documents' → IsBook after names' documents' now (tokens + 1) (sum - 1) drivers
+acquired_book {names} {names'} before mid after documents documents' now tokens owed drivers sum doc until seat e was called same enough more less seat_is is may t =
     let locked = subst (λ n. IsLocked (record { last = tokens + 1; until = until; seat = n; held = true }) t.was t.now) (sym seat_is) t.is in
     let here = here_acquired doc t.was t.now (entries before) e was.stands.legal (was.stands.each doc t.was t.at) (tokens + 1) until is may.token_is locked in
     let stands = kept_set documents doc t.was t.now (entries before) e t.at (subst (IsAllowed (entries before) e.seat) (sym is) may) (λ d apart. subst (Passes d) (sym is) apart) (ap making_of is)
@@ -120,7 +120,7 @@ acquired_book before mid after documents documents' now tokens owed drivers sum 
     let counted = was.counted in
     let sum_is = enough.0 in
     let sum_low = enough.1 in
-    push_book before after documents documents' now now tokens (tokens + 1) owed (sum - 1) drivers e was (more ∙ ap (λ l. l ++ e ∷ []) same)
+    push_book before after documents documents' now now tokens (tokens + 1) owed (sum - 1) drivers e was (no_name names names' e called (ap making_of is)) (more ∙ ap (λ l. l ++ e ∷ []) same)
     (subst (λ (l : List Document). AreDocuments l (entries before ++ e ∷ [])) (sym t.set_is) stands) (ap (λ a. ticked a now) (sym is)) was.now_low (omega (arith, one))
     (subst (λ (l : List ℕ). owed_for documents' + unclosed (driver_count drivers) l ≤ sum - 1) (sym (ap (λ a. closed (entries before) ++ closed_by a) is ∙ append-nil (closed (entries before)))) (omega (arith, all, s, l, h, counted, sum_is)))
     (omega (arith, sum_low, less))
@@ -140,13 +140,13 @@ stands_in lock token none = by (eqb_tells lock.last token) lock.held refl none
         let f : Some (Other lock.last) ≡ None = sym (ap (λ b. if b then (if lock.held then None else Some Ended) else Some (Other lock.last)) t.0) ∙ none in absurd (cc)
 
 -- something waits, or a lock is held: so an entry is owed
-pub waits_owed : (before : Journaled) (documents : List Document) (now tokens owed drivers doc : ℕ) (x : Document) → IsBook before documents now tokens owed drivers → slice_get documents doc ≡ Some x → 1 ≤ owed_by x → 1 ≤ owed
+pub waits_owed : {names : List (List ℕ)} (before : Journaled) (documents : List Document) (now tokens owed drivers doc : ℕ) (x : Document) → IsBook before names documents now tokens owed drivers → slice_get documents doc ≡ Some x → 1 ≤ owed_by x → 1 ≤ owed
 waits_owed before documents now tokens owed drivers doc x was at one = let l = owed_least documents doc x at in let c = was.counted in omega (arith, l, c, one)
 
-pub released_book : (before after : Journaled) (documents documents' : List Document) (now tokens owed drivers doc token seat : ℕ) (e : Entry)
-    → IsBook before documents now tokens owed drivers → entries after ≡ entries before ++ e ∷ [] → spare after + 1 ≡ spare before
-    → e.seat ≡ seat → e.act ≡ Released doc token → Holds seat doc token (entries before) → (t : Turns doc IsFreed documents documents') → t.was.lock.held ≡ true → IsBook after documents' now tokens (owed - 1) drivers
-released_book before after documents documents' now tokens owed drivers doc token seat e was more less seat_is is holds t held =
+pub released_book : {names names' : List (List ℕ)} (before after : Journaled) (documents documents' : List Document) (now tokens owed drivers doc token seat : ℕ) (e : Entry)
+    → IsBook before names documents now tokens owed drivers → names' ≡ names → entries after ≡ entries before ++ e ∷ [] → spare after + 1 ≡ spare before
+    → e.seat ≡ seat → e.act ≡ Released doc token → Holds seat doc token (entries before) → (t : Turns doc IsFreed documents documents') → t.was.lock.held ≡ true → IsBook after names' documents' now tokens (owed - 1) drivers
+released_book {names} {names'} before after documents documents' now tokens owed drivers doc token seat e was called more less seat_is is holds t held =
     let here = here_released doc t.was t.now (entries before) e was.stands.legal (was.stands.each doc t.was t.at) token holds.acquiring is holds.held.last holds.token_is t.is in
     let may : IsAllowed (entries before) e.seat e.act = subst (IsAllowed (entries before) e.seat) (sym is) (subst (λ n. Holds n doc token (entries before)) (sym seat_is) holds) in
     let stands = kept_set documents doc t.was t.now (entries before) e t.at may (λ d apart. subst (Passes d) (sym is) apart) (ap making_of is)
@@ -159,18 +159,18 @@ released_book before after documents documents' now tokens owed drivers doc toke
     let g : one_for t.was.lock.held ≡ 1 = ap one_for held in
     let counted = was.counted in
     let room = was.room in
-    push_book before after documents documents' now now tokens tokens owed (owed - 1) drivers e was more
+    push_book before after documents documents' now now tokens tokens owed (owed - 1) drivers e was (no_name names names' e called (ap making_of is)) more
     (subst (λ (l : List Document). AreDocuments l (entries before ++ e ∷ [])) (sym t.set_is) stands) (ap (λ a. ticked a now) (sym is)) was.now_low (omega (arith, none))
     (subst (λ (l : List ℕ). owed_for documents' + unclosed (driver_count drivers) l ≤ owed - 1) (sym (ap (λ a. closed (entries before) ++ closed_by a) is ∙ append-nil (closed (entries before)))) (omega (arith, all, s, l, h, g, counted)))
     (omega (arith, room, less))
 
 -- ---- what a check of a token tells
-at_within : {A : Type 0} (xs : List A) (i : ℕ) → i < length xs → (x : A) × (slice_get xs i ≡ Some x)
+pub at_within : {A : Type 0} (xs : List A) (i : ℕ) → i < length xs → (x : A) × (slice_get xs i ≡ Some x)
 at_within [] i lt = absurd (omega (arith, lt))
 at_within (x ∷ xs) zero lt = (x, refl)
 at_within (x ∷ xs) (suc i) lt = at_within xs i (omega (arith, lt))
 
-module _ (before : Journaled) (documents : List Document) (now tokens owed drivers doc token : ℕ) (was : IsBook before documents now tokens owed drivers) where
+module _ {names : List (List ℕ)} (before : Journaled) (documents : List Document) (now tokens owed drivers doc token : ℕ) (was : IsBook before names documents now tokens owed drivers) where
   pub told_by : (r : Option Stale) → doc < length documents → ((d : Document) → slice_get documents doc ≡ Some d → stale_in d.lock token ≡ r) → staleness doc token (entries before) ≡ r
   told_by r within check = let x = at_within documents doc within in sym (stale_is doc token x.0 (entries before) (was.stands.each doc x.0 x.1)) ∙ check x.0 x.1
 
@@ -199,11 +199,11 @@ rest_of [] = []
 rest_of (x ∷ xs) = xs
 
 -- the first update that waits was settled, and the document is what its outcome made of it
-pub settled_book : {R : Document → Document → Type 0} (before after : Journaled) (documents documents' : List Document) (now tokens owed drivers doc token ticket seat : ℕ) (outcome : Outcome) (u : Update) (rest : List ℕ) (e : Entry)
-    → IsBook before documents now tokens owed drivers → entries after ≡ entries before ++ e ∷ [] → spare after + 1 ≡ spare before
+pub settled_book : {R : Document → Document → Type 0} {names names' : List (List ℕ)} (before after : Journaled) (documents documents' : List Document) (now tokens owed drivers doc token ticket seat : ℕ) (outcome : Outcome) (u : Update) (rest : List ℕ) (e : Entry)
+    → IsBook before names documents now tokens owed drivers → names' ≡ names → entries after ≡ entries before ++ e ∷ [] → spare after + 1 ≡ spare before
     → e.seat ≡ seat → e.act ≡ Committed doc token ticket outcome → IsAllowed (entries before) seat (Committed doc token ticket outcome) → waiting doc (entries before) ≡ ticket ∷ rest → update_at (entries before) ticket ≡ Some u
-    → (t : Turns doc R documents documents') → Becomes t.was u t.now outcome → t.now.lock ≡ t.was.lock → (first : ℕ) → t.was.waiting.items ≡ first ∷ t.now.waiting.items → IsBook after documents' now tokens (owed - 1) drivers
-settled_book before after documents documents' now tokens owed drivers doc token ticket seat outcome u rest e was more less seat_is is may first named t becomes locks taken waits =
+    → (t : Turns doc R documents documents') → Becomes t.was u t.now outcome → t.now.lock ≡ t.was.lock → (first : ℕ) → t.was.waiting.items ≡ first ∷ t.now.waiting.items → IsBook after names' documents' now tokens (owed - 1) drivers
+settled_book {R} {names} {names'} before after documents documents' now tokens owed drivers doc token ticket seat outcome u rest e was called more less seat_is is may first named t becomes locks taken waits =
     let j = entries before in
     let x = was.stands.each doc t.was t.at in
     let left : t.now.waiting.items ≡ rest = ap rest_of (sym waits ∙ x.waiting_is ∙ first) in
@@ -218,17 +218,17 @@ settled_book before after documents documents' now tokens owed drivers doc token
     let h : one_for t.now.lock.held ≡ one_for t.was.lock.held = ap (λ (k : LockState). one_for k.held) locks in
     let counted = was.counted in
     let room = was.room in
-    push_book before after documents documents' now now tokens tokens owed (owed - 1) drivers e was more
+    push_book before after documents documents' now now tokens tokens owed (owed - 1) drivers e was (no_name names names' e called (ap making_of is)) more
     (subst (λ (l : List Document). AreDocuments l (j ++ e ∷ [])) (sym t.set_is) stands) (ap (λ a. ticked a now) (sym is)) was.now_low (omega (arith, none))
     (subst (λ (l : List ℕ). owed_for documents' + unclosed (driver_count drivers) l ≤ owed - 1) (sym (ap (λ a. closed j ++ closed_by a) is ∙ append-nil (closed j))) (omega (arith, all, s, l, h, counted)))
     (omega (arith, room, less))
 
-pub refused_book : (before after : Journaled) (documents documents' : List Document) (now tokens owed drivers doc token ticket seat : ℕ) (cause : Cause) (e : Entry)
-    → IsBook before documents now tokens owed drivers → entries after ≡ entries before ++ e ∷ [] → spare after + 1 ≡ spare before
-    → e.seat ≡ seat → e.act ≡ Committed doc token ticket (Refused cause) → MayRefuse (entries before) seat doc token ticket cause → Turns doc IsUnqueued documents documents' → IsBook after documents' now tokens (owed - 1) drivers
-refused_book before after documents documents' now tokens owed drivers doc token ticket seat cause e was more less seat_is is may t =
+pub refused_book : {names names' : List (List ℕ)} (before after : Journaled) (documents documents' : List Document) (now tokens owed drivers doc token ticket seat : ℕ) (cause : Cause) (e : Entry)
+    → IsBook before names documents now tokens owed drivers → names' ≡ names → entries after ≡ entries before ++ e ∷ [] → spare after + 1 ≡ spare before
+    → e.seat ≡ seat → e.act ≡ Committed doc token ticket (Refused cause) → MayRefuse (entries before) seat doc token ticket cause → Turns doc IsUnqueued documents documents' → IsBook after names' documents' now tokens (owed - 1) drivers
+refused_book {names} {names'} before after documents documents' now tokens owed drivers doc token ticket seat cause e was called more less seat_is is may t =
     let sent = waits_sent doc ticket (entries before) may.rest may.first in
-    settled_book before after documents documents' now tokens owed drivers doc token ticket seat (Refused cause) sent.0 may.rest e was more less seat_is is
+    settled_book before after documents documents' now tokens owed drivers doc token ticket seat (Refused cause) sent.0 may.rest e was called more less seat_is is
     (allowed_refusal (entries before) seat doc token ticket cause may) may.first sent.1 t t.is.same t.is.lock_is t.is.ticket t.is.waiting_is
 
 pub some_waits : (j : List Entry) (documents : List Document) (doc : ℕ) (x : Document) (ticket : ℕ) (rest : List ℕ) → AreDocuments documents j → slice_get documents doc ≡ Some x → waiting doc j ≡ ticket ∷ rest → 0 < length x.waiting.items

@@ -91,7 +91,6 @@ module _ (old : Document) (u : Update) (look : Snapshot) (is : IsLook old u look
 
   pub becomes : (d : Decision) (new : Document) → Applies look d → TakesDecision old look d new → Becomes old u new (outcome_of look.version d)
   becomes (Apply op text ranges) new applies has = record {
-    name_is = has.name_is;
     version_is = is.version_is;
     text_is = ap (λ t. applied_all t op) (sym is.text_is) ∙ applies.applies ∙ ap (λ t. Some t) (sym has.text_is);
     ranges_are = λ row tracked.

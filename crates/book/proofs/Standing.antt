@@ -16,7 +16,7 @@ use Rattle.journal_entries.specs.declared.update.Update.{Update}
 use Rattle.journal_entries.specs.declared.update.Outcome.{Outcome}
 use Rattle.journal_entries.specs.declared.update.Outcome.TheVariants.{Applied, Dup, Refused}
 use Rattle.journal_entries.specs.declared.act.Entry.{Entry}
-use Rattle.journal_rules.specs.Documents.{Making, makings, name_in, first_in, base_in, base, Item, item_of, applied_list, replayed, waiting, text, version}
+use Rattle.journal_rules.specs.Documents.{Making, makings, first_in, base_in, base, Item, item_of, applied_list, replayed, waiting, text, version}
 use Rattle.journal_rules.specs.Tracking.{tracked, cells, stamp_of}
 use Rattle.journal_rules.specs.Deciding.{Passed, passed_of, longest}
 use Rattle.journal_rules.proofs.Replaying.{replays_on}
@@ -30,7 +30,7 @@ use Rattle.ranges_tracker.proofs.Versions.{plain_tracked, steps_tracked}
 use Rattle.journal_rules.proofs.Growing.{tracked-append}
 
 pub same_self : (document : Document) → IsSame document document
-same_self document = record { name_is = refl; text_is = refl; ranges_are = refl; window_is = refl }
+same_self document = record { text_is = refl; ranges_are = refl; window_is = refl }
 
 -- a journal that says the same of a document
 window_moved : (d : ℕ) (window : Recent) (j k : List Entry) → slice_get (makings k) d ≡ slice_get (makings j) d → applied_list d k ≡ applied_list d j → IsWindowOf d window j → IsWindowOf d window k
@@ -47,7 +47,6 @@ tracked_moved row row' text text' ranges ranges' v v' rows texts shows versions 
 
 pub moved : (d : ℕ) (old new : Document) (j k : List Entry) → slice_get (makings k) d ≡ slice_get (makings j) d → applied_list d k ≡ applied_list d j → IsSame old new → new.waiting.items ≡ waiting d k → new.lock ≡ lock_of d k → cached d k ≡ true → IsDocument d old j → IsDocument d new k
 moved d old new j k ms items same waits locks caches was = record {
-  name_is = same.name_is ∙ was.name_is ∙ ap name_in (sym ms);
   text_is = ap₂ (λ (o : Option Making) (l : List Item). replayed (first_in o) (map (λ x. x.op) l)) ms items ∙ was.text_is ∙ ap (λ t. Some t) (sym same.text_is);
   short = subst (λ (t : List ℕ). length t ≤ longest) (sym same.text_is) was.short;
   tracked = tracked_moved (cells d j) (cells d k) old.text new.text old.ranges new.ranges (version d j) (version d k)
@@ -60,9 +59,8 @@ moved d old new j k ms items same waits locks caches was = record {
 }
 
 -- a document that was just made
-pub made_new : (d : ℕ) (new : Document) (j : List Entry) (m : Making) → slice_get (makings j) d ≡ Some m → applied_list d j ≡ [] → waiting d j ≡ [] → lock_of d j ≡ record { last = 0; until = 0; seat = 0; held = false } → cached d j ≡ true → length m.first ≤ longest → IsNew new m.name m.first m.base → IsDocument d new j
+pub made_new : (d : ℕ) (new : Document) (j : List Entry) (m : Making) → slice_get (makings j) d ≡ Some m → applied_list d j ≡ [] → waiting d j ≡ [] → lock_of d j ≡ record { last = 0; until = 0; seat = 0; held = false } → cached d j ≡ true → length m.first ≤ longest → IsNew new m.first m.base → IsDocument d new j
 made_new d new j m ms items idle locks caches short is = record {
-  name_is = is.name_is ∙ ap name_in (sym ms);
   text_is = ap₂ (λ (o : Option Making) (l : List Item). replayed (first_in o) (map (λ x. x.op) l)) ms items ∙ ap (λ t. Some t) (sym is.text_is);
   short = subst (λ (t : List ℕ). length t ≤ longest) (sym is.text_is) short;
   tracked = tracked_moved (plain_row m.first) (cells d j) m.first new.text ([], []) new.ranges (m.base + 0) (version d j)
@@ -90,7 +88,6 @@ numbered-push v (y ∷ ys) x =
 -- a document to which an operation was applied
 applied_on : (d : ℕ) (old new : Document) (j k : List Entry) (ticket v : ℕ) (u : Update) (op : List Comp) → slice_get (makings k) d ≡ slice_get (makings j) d → applied_list d k ≡ applied_list d j ++ item_of ticket (Some u) (Applied v op) → new.waiting.items ≡ waiting d k → new.lock ≡ lock_of d k → cached d k ≡ true → WasApplied old u v op new → IsDocument d old j → IsDocument d new k
 applied_on d old new j k ticket v u op ms items waits locks caches is was = record {
-  name_is = is.name_is ∙ was.name_is ∙ ap name_in (sym ms);
   text_is = ap₂ (λ (o : Option Making) (l : List Item). replayed (first_in o) (map (λ x. x.op) l)) ms items ∙ replays_on (first_in (slice_get (makings j) d)) old.text new.text (applied_list d j) x was.text_is is.text_is;
   short = is.short;
   tracked = tracked_moved (steps (cells d j) op (stamp_of x) 0).row (cells d k) new.text new.text (shown (steps (cells d j) op (stamp_of x) 0).row) new.ranges (version d j + 1) (version d k) rows refl (sym shows) next_version

@@ -30,14 +30,12 @@ pub record IsPassable (op : List Comp) : Type 0 where
 
 -- nothing of a document was changed but what waits
 pub record IsSame (old new : Document) : Type 0 where
-  pub name_is : new.name ≡ old.name
   pub text_is : new.text ≡ old.text
   pub ranges_are : new.ranges ≡ old.ranges
   pub window_is : new.window ≡ old.window
 
 -- an operation of an update was applied to a document
 pub record WasApplied (old : Document) (u : Update) (v : ℕ) (op : List Comp) (new : Document) : Type 0 where
-  pub name_is : new.name ≡ old.name
   pub version_is : v ≡ old.window.version
   pub text_is : applied_all old.text op ≡ Some new.text
   pub ranges_are : (row : Row) → IsTracked row old.text old.ranges v → shown (steps row op (stamp_at v u) 0).row ≡ new.ranges

@@ -31,7 +31,6 @@ pub record IsLook (old : Document) (u : Update) (look : Snapshot) : Type 0 where
 
 -- an applied operation takes its text, its ranges and its place in the window
 pub record TakesApplied (old : Document) (look : Snapshot) (op : List Comp) (text : List ℕ) (ranges : List Change × List Comment) (new : Document) : Type 0 where
-  pub name_is : new.name ≡ old.name
   pub text_is : new.text ≡ text
   pub ranges_are : new.ranges ≡ ranges
   pub window_is : new.window ≡ pushed old.window (record { source = look.update.source; op = op })
@@ -98,3 +97,10 @@ pub record IsOf (look : Snapshot) (journal : List Entry) : Type 0 where
   pub journal_is : journal ≡ early ++ more
   pub looks : IsLookAt early look
   pub unused : All (λ e. is_in look.token (used_by e.act) ≡ false) more
+
+-- the journal has gone on from the look, which may have been committed
+pub record IsSince (look : Snapshot) (journal : List Entry) : Type 0 where
+  pub early : List Entry
+  pub more : List Entry
+  pub journal_is : journal ≡ early ++ more
+  pub looks : IsLookAt early look

@@ -3,7 +3,7 @@ use Rattle.std.specs.Prelude.{◌≡◌, ℕ, zero, suc, ◌+◌, ◌≤◌, ◌
 use Rattle.journal_entries.specs.Journals.{Journaled, entries, spare}
 use Rattle.journal_entries.specs.declared.act.Act.{Act}
 use Rattle.journal_entries.specs.declared.act.Entry.{Entry}
-use Rattle.journal_rules.specs.Documents.{is_in}
+use Rattle.journal_rules.specs.Documents.{Making, is_in, makings}
 use Rattle.journal_rules.specs.Locks.{acquirings, clock}
 use Rattle.journal_rules.specs.Legal.{clock_end, closed}
 use Rattle.turn_rules.specs.Turns.{entry_by}
@@ -23,8 +23,13 @@ abbrev pub unclosed : ℕ → List ℕ → ℕ
 unclosed zero tokens = 0
 unclosed (suc n) tokens = (if is_in n tokens then 0 else 1) + unclosed n tokens
 
+-- the names of the documents that were made
+abbrev pub names_in : List Entry → List (List ℕ)
+names_in journal = map (λ (m : Making). m.name) (makings journal)
+
 -- the journal is legal, and the documents, the clock and the count of tokens stand as it says; and there is room for what is owed: an entry for each update that waits, each lock that wasn't released and each driver that hasn't closed
-pub record IsBook (journal : Journaled) (documents : List Document) (now tokens owed drivers : ℕ) : Type 0 where
+pub record IsBook (journal : Journaled) (names : List (List ℕ)) (documents : List Document) (now tokens owed drivers : ℕ) : Type 0 where
+  pub names_are : names ≡ names_in (entries journal)
   pub stands : AreDocuments documents (entries journal)
   pub now_is : now ≡ clock (entries journal)
   pub now_low : now ≤ clock_end

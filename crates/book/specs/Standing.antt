@@ -8,7 +8,7 @@ use Rattle.dup_check.specs.Snapshot.{numbered}
 use Rattle.journal_entries.specs.declared.update.Update.{Update}
 use Rattle.journal_entries.specs.declared.update.Outcome.{Outcome}
 use Rattle.journal_entries.specs.declared.act.Entry.{Entry}
-use Rattle.journal_rules.specs.Documents.{Item, makings, name, base, text, version, applied_list, waiting, update_at, is_in}
+use Rattle.journal_rules.specs.Documents.{Item, makings, base, text, version, applied_list, waiting, update_at, is_in}
 use Rattle.journal_rules.specs.Tracking.{cells}
 use Rattle.journal_rules.specs.Deciding.{decided_of, passed_of, longest}
 use Rattle.journal_rules.specs.Keeping.{cached}
@@ -42,9 +42,13 @@ lock_in None tokens = record { last = 0; until = 0; seat = 0; held = false }
 abbrev pub lock_of : ℕ → List Entry → LockState
 lock_of d journal = lock_in (last_acquiring d journal) (released journal)
 
+-- the documents by their numbers, and their names
+pub record Held : Type 0 where
+  pub names : List (List ℕ)
+  pub items : List Document
+
 -- a document stands as the journal has the document of this number
 pub record IsDocument (d : ℕ) (document : Document) (journal : List Entry) : Type 0 where
-  pub name_is : document.name ≡ name d journal
   pub text_is : text d journal ≡ Some document.text
   pub short : length document.text ≤ longest
   pub tracked : IsTracked (cells d journal) document.text document.ranges (version d journal)
@@ -74,8 +78,7 @@ owed_for [] = 0
 owed_for (x ∷ xs) = owed_by x + owed_for xs
 
 -- a document that was just made
-pub record IsNew (document : Document) (name first : List ℕ) (base : ℕ) : Type 0 where
-  pub name_is : document.name ≡ name
+pub record IsNew (document : Document) (first : List ℕ) (base : ℕ) : Type 0 where
   pub text_is : document.text ≡ first
   pub ranges_are : document.ranges ≡ ([], [])
   pub window_is : document.window ≡ empty_at base

@@ -13,7 +13,7 @@ ghost use Rattle.book.specs.Calls.{existing, MayNotTick, MayNotSend, raw_act, ti
 ghost use Rattle.book.specs.Standing.{IsNew};
 
 use crate::document::Document;
-use crate::documents::{place_of, queue};
+use crate::documents::Documents;
 use crate::faults::{By, MakeFault, RawFault, RawUpdate, TickFault};
 use crate::room::make_room;
 use journal_entries::{Act, Entry, Journal, Update, Why};
@@ -30,7 +30,7 @@ const CLOCK_END: u64 = 4_611_686_018_427_387_904;
 #[derive(Drop)]
 pub struct Book {
     pub(crate) journal: Journal,
-    pub(crate) documents: Vec<Document>,
+    pub(crate) documents: Documents,
     /// The clock, in milliseconds of the script.
     pub(crate) moment: u64,
     /// How many tokens were given.
@@ -50,7 +50,7 @@ impl Model for Book {
 
     ghost view = { λ b. record { journal = entries b.journal; drivers = b.drivers } };
 
-    ghost invariant = { λ b. IsBook b.journal b.documents.items b.moment b.tokens b.owed b.drivers };
+    ghost invariant = { λ b. IsBook b.journal b.documents.names b.documents.items b.moment b.tokens b.owed b.drivers };
 }
 
 impl Book {
@@ -64,7 +64,7 @@ impl Book {
         journal.reserve(owed)?;
         Ok(Book {
             journal,
-            documents: Vec::new(alloc),
+            documents: Documents::new(alloc),
             moment: 0,
             tokens: 0,
             owed,
@@ -90,17 +90,18 @@ impl Book {
         ensures refused { IfErr result (λ f. existing f ≡ number_of name.now self.old.journal) }
         ensures kept { OnErr result (self.new ≡ self.old) }
     {
-        if let Some(found) = place_of(&self.documents, name) {
+        if let Some(found) = self.documents.find(name) {
             return Err(MakeFault::Exists(found as u32));
         }
         let doc = self.documents.len() as u32;
-        let Ok((document, entry)) = made(self.alloc, by, doc, name, project, first, base) else {
+        let Ok((key, document, entry)) = made(self.alloc, by, doc, name, project, first, base)
+        else {
             return Err(MakeFault::Memory);
         };
         let Ok(_sum) = make_room(&mut self.journal, self.owed, 1) else {
             return Err(MakeFault::Memory);
         };
-        let Ok(()) = self.documents.push(document) else {
+        let Ok(()) = self.documents.add(key, document) else {
             return Err(MakeFault::Memory);
         };
         self.journal.push(entry);
@@ -164,7 +165,7 @@ impl Book {
             return Err(RawFault::Memory);
         };
         let ticket = self.journal.len();
-        let Ok(()) = queue(&mut self.documents, doc, ticket) else {
+        let Ok(()) = self.documents.queue(doc, ticket) else {
             return Err(RawFault::Memory);
         };
         self.journal.push(entry_of(by, Act::Sent { update }));
@@ -198,7 +199,7 @@ impl Book {
     pub fn find(&self, name: &Name) -> Option<u32>
         ensures { result ≡ number_of name.now self.now.journal }
     {
-        let found = place_of(&self.documents, name)?;
+        let found = self.documents.find(name)?;
         Some(found as u32)
     }
 
@@ -228,16 +229,16 @@ impl Book {
     pub fn waiting(&self, doc: u32) -> u64
         ensures { result ≡ length (waiting doc self.now.journal) }
     {
-        let doc = doc as usize;
-        if doc >= self.documents.len() {
+        let Some(document) = self.documents.get(doc as usize) else {
             return 0;
-        }
-        self.documents[doc].waiting.len() as u64
+        };
+        document.waiting.len() as u64
     }
 
     /// The journal, for the end of a run.
     pub fn ended(self) -> Journal
-        ensures { entries result ≡ self.journal }
+        ensures entries { entries result ≡ self.journal }
+        ensures legal { IsLegal (entries result) }
     {
         self.journal
     }
@@ -261,7 +262,7 @@ fn owed_at_first(drivers: u32) -> u64
     if drivers == 0 { 1 } else { drivers as u64 }
 }
 
-// A document that is made, and its entry.
+// A document that is made, with its name, and its entry.
 fn made(
     alloc: Global,
     by: By,
@@ -270,11 +271,12 @@ fn made(
     project: &Name,
     first: &Units,
     base: u64,
-) -> Result<(Document, Entry), AllocError>
-    ensures document { IfOk result (λ m. IsNew m.0 name.now first.now base) }
-    ensures entry { IfOk result (λ m. m.1 ≡ record { seat = by.seat; line = by.line; act = Made doc name.now project.now first.now base }) }
+) -> Result<(Name, Document, Entry), AllocError>
+    ensures name { IfOk result (λ m. m.0 ≡ name.now) }
+    ensures document { IfOk result (λ m. IsNew m.1 first.now base) }
+    ensures entry { IfOk result (λ m. m.2 ≡ record { seat = by.seat; line = by.line; act = Made doc name.now project.now first.now base }) }
 {
-    let document = Document::new(alloc, name.copy(alloc)?, doc_text(alloc, first)?, base)?;
+    let document = Document::new(alloc, doc_text(alloc, first)?, base)?;
     let act = Act::Made {
         doc,
         name: name.copy(alloc)?,
@@ -282,7 +284,7 @@ fn made(
         first: first.copy(alloc)?,
         base,
     };
-    Ok((document, entry_of(by, act)))
+    Ok((name.copy(alloc)?, document, entry_of(by, act)))
 }
 
 // A raw update, as it is sent.

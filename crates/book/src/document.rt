@@ -14,7 +14,6 @@ use expiring_lock::Lock;
 use journal_entries::{Outcome, Update};
 use ot_op::Op;
 use ot_text::DocText;
-use ot_units::Name;
 use pending_queue::Queue;
 use ranges_tracker::Ranges;
 use std::alloc::{AllocError, Global};
@@ -22,7 +21,6 @@ use std::alloc::{AllocError, Global};
 /// A document as it stands.
 #[derive(Drop)]
 pub(crate) struct Document {
-    pub name: Name,
     pub text: DocText,
     pub ranges: Ranges,
     pub window: Window,
@@ -43,16 +41,10 @@ pub(crate) struct Taking {
 
 impl Document {
     /// A document that was just made.
-    pub(crate) fn new(
-        alloc: Global,
-        name: Name,
-        text: DocText,
-        version: u64,
-    ) -> Result<Document, AllocError>
-        ensures { IfOk result (λ made. IsNew made name text version) }
+    pub(crate) fn new(alloc: Global, text: DocText, version: u64) -> Result<Document, AllocError>
+        ensures { IfOk result (λ made. IsNew made text version) }
     {
         Ok(Document {
-            name,
             text,
             ranges: Ranges::none(alloc),
             window: Window::new(alloc, version)?,

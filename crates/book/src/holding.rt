@@ -14,7 +14,7 @@ ghost use Rattle.book.specs.Looking.{CanDecide, IsDecided, IsLookAt, IsOf};
 
 use crate::book::{Book, entry_of};
 use crate::document::Taking;
-use crate::documents::{check, let_go, settle, take, unqueue, update_at};
+use crate::documents::update_at;
 use crate::faults::{AcquireFault, By, CommitFault, Prepared};
 use crate::room::make_room;
 use dup_check::Snapshot;
@@ -33,10 +33,9 @@ impl Book {
         ensures kept { OnErr result (self.new ≡ self.old) }
     {
         let at = doc as usize;
-        if at >= self.documents.len() {
+        let Some(document) = self.documents.get(at) else {
             return Err(AcquireFault::NoDoc);
-        }
-        let document = &self.documents[at];
+        };
         let Some(&ticket) = document.waiting.front() else {
             return Err(AcquireFault::Empty);
         };
@@ -61,7 +60,7 @@ impl Book {
         let Ok(sum) = make_room(&mut self.journal, self.owed, 2) else {
             return Err(AcquireFault::Memory);
         };
-        let until = take(&mut self.documents, at, self.moment, token, by.seat);
+        let until = self.documents.take(at, self.moment, token, by.seat);
         self.journal
             .push(entry_of(by, Act::Acquired { doc, token, until }));
         self.tokens = token;
@@ -88,7 +87,7 @@ impl Book {
         if at >= self.documents.len() {
             return Err(CommitFault::Stale(never_given(token)));
         }
-        if let Some(stale) = check(&self.documents, at, token) {
+        if let Some(stale) = self.documents.check(at, token) {
             return Err(CommitFault::Stale(stale));
         }
         let Ok(op) = prepared.copy_op(self.alloc) else {
@@ -96,7 +95,7 @@ impl Book {
         };
         // No journal is so long that a version could pass 2^64.
         let _length = self.journal.len();
-        let outcome = settle(&mut self.documents, at, prepared, op);
+        let outcome = self.documents.settle(at, prepared, op);
         self.journal.push(entry_of(
             by,
             Act::Committed {
@@ -128,10 +127,10 @@ impl Book {
         if at >= self.documents.len() {
             return Err(never_given(token));
         }
-        if let Some(stale) = check(&self.documents, at, token) {
+        if let Some(stale) = self.documents.check(at, token) {
             return Err(stale);
         }
-        unqueue(&mut self.documents, at);
+        self.documents.unqueue(at);
         let outcome = Outcome::Refused(cause);
         self.journal.push(entry_of(
             by,
@@ -157,11 +156,11 @@ impl Book {
         if at >= self.documents.len() {
             return Err(never_given(token));
         }
-        if let Some(stale) = check(&self.documents, at, token) {
+        if let Some(stale) = self.documents.check(at, token) {
             return Err(stale);
         }
-        let more = self.documents[at].waiting.len() > 0;
-        let_go(&mut self.documents, at, token);
+        let more = self.waiting(doc) > 0;
+        self.documents.let_go(at, token);
         self.journal
             .push(entry_of(by, Act::Released { doc, token }));
         self.owed -= 1;

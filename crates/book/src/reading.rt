@@ -4,8 +4,10 @@ ghost use Rattle.std.specs.Prelude.{◌≡◌, Some};
 ghost use Rattle.journal_rules.specs.Documents.{IsMade, name as name_lem, text as text_lem, version as version_lem};
 ghost use Rattle.journal_rules.specs.Tracking.{cells};
 ghost use Rattle.ranges_tracker.specs.Shown.{shown};
+ghost use Rattle.book.specs.Standing.{IsDocument};
 
 use crate::book::Book;
+use crate::document::Document;
 use ot_text::DocText;
 use ot_units::Name;
 use ranges_tracker::Ranges;
@@ -16,7 +18,20 @@ impl Book {
         requires { IsMade doc self.now.journal }
         ensures { result.now ≡ name_lem doc self.now.journal }
     {
-        &self.documents[doc as usize].name
+        let Some(name) = self.documents.name(doc as usize) else {
+            unreachable!()
+        };
+        name
+    }
+
+    fn document(&self, doc: u32) -> &Document
+        requires { IsMade doc self.now.journal }
+        ensures { IsDocument doc result.now self.now.journal }
+    {
+        let Some(document) = self.documents.get(doc as usize) else {
+            unreachable!()
+        };
+        document
     }
 
     /// The text of a document at its version.
@@ -24,7 +39,7 @@ impl Book {
         requires { IsMade doc self.now.journal }
         ensures { text_lem doc self.now.journal ≡ Some result.now }
     {
-        &self.documents[doc as usize].text
+        &self.document(doc).text
     }
 
     /// The tracked changes and the comments of a document at its version.
@@ -32,7 +47,7 @@ impl Book {
         requires { IsMade doc self.now.journal }
         ensures { result.now ≡ shown (cells doc self.now.journal) }
     {
-        &self.documents[doc as usize].ranges
+        &self.document(doc).ranges
     }
 
     /// The version of a document: that at which it was made, and one for each update that was applied.
@@ -40,6 +55,6 @@ impl Book {
         requires { IsMade doc self.now.journal }
         ensures { result ≡ version_lem doc self.now.journal }
     {
-        self.documents[doc as usize].window.version()
+        self.document(doc).window.version()
     }
 }

@@ -1,7 +1,7 @@
 -- A store after a value was written.
 use Rattle.std.proofs.Common.{◌≡◌, ℕ, zero, suc, List, [], ◌∷◌, slice_set, true≢false, false, refl, ap, Option, None, Some}
 use Rattle.std.specs.Prelude.{is_some}
-use Rattle.indexmap.specs.IndexMap.{set_value_at}
+use Rattle.keyed_store.specs.Stores.{set_value_at}
 use Rattle.keyed_store.specs.Stores.{names_of, values_of}
 
 module _ {S : Type 0} where

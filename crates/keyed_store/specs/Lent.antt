@@ -1,7 +1,7 @@
 -- What a store ends as, once a value that was lent has ended.
 use Rattle.std.specs.Prelude.{ℕ, List, Option}
 use Rattle.std.specs.Borrow.{LendsIf, Fml, RattleType, MutBor}
-use Rattle.indexmap.specs.IndexMap.{set_value_at}
+use Rattle.keyed_store.specs.Stores.{set_value_at}
 use Rattle.keyed_store.specs.contracts.store.Store as store
 
 -- the store has the last value written through r at the number, and at `None` it stays as it is

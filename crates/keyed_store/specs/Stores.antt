@@ -1,6 +1,7 @@
 -- Values by name, in the order in which they were added.
 use Rattle.std.specs.Prelude.{ℕ, List, map, position, slice_get, Option, Some, None}
 use Rattle.std.specs.Str.{bytes_eq}
+pub use Rattle.indexmap.specs.IndexMap.{set_value_at}
 use Rattle.keyed_store.specs.declared.store.AddFault.{AddFault}
 use Rattle.keyed_store.specs.declared.store.AddFault.TheVariants.{Exists, Memory}
 

@@ -1,7 +1,7 @@
 //! The store, with its calls. No call's cost grows with the number of values.
 
-ghost use Rattle.std.specs.Prelude.{◌≡◌, [], ◌∷◌, ◌++◌, length, None, IfOk, IfErr, OnErr};
-ghost use Rattle.keyed_store.specs.Stores.{existing, place_of, value_at};
+ghost use Rattle.std.specs.Prelude.{◌≡◌, [], ◌∷◌, ◌++◌, length, slice_get, None, IfOk, IfErr, OnErr};
+ghost use Rattle.keyed_store.specs.Stores.{existing, names_of, place_of, value_at};
 
 use indexmap::IndexMap;
 use ot_units::Name;
@@ -73,6 +73,13 @@ impl<S: Drop> Store<S> {
         ensures { result ≡ place_of name.now self.now }
     {
         self.map.get_index_of(name)
+    }
+
+    /// The name with a number.
+    pub fn name(&self, at: usize) -> Option<&Name>
+        ensures { option_copied result ≡ slice_get (names_of self.now) at }
+    {
+        Some(self.map.get_index(at)?.0)
     }
 
     /// The value with a number.

@@ -71,7 +71,7 @@ invariant_of-self c =
     let look = c.args.prepared.look in
     let none = told_by s.journal s.documents.items s.moment s.tokens s.owed s.drivers look.doc look.token c.self.invariant None (omega (arith, len, low)) (λ d at. c.check.ensures d at ∙ c.in_default.is) in
     let of = subst (λ (v : Shown). IsOf look v.journal) (sym c.self.view_is) c.requires.looked in
-    committed_book s.journal c.push.new.self s.documents.items c.settle-outcome.new.documents.items s.moment s.tokens s.owed s.drivers c.args.by.seat look c.args.prepared.decision c.entry_of.result c.self.invariant c.push.ensures.entries c.push.ensures.spare
+    committed_book s.journal c.push.new.self s.documents.items c.settle-outcome.new.self.items s.moment s.tokens s.owed s.drivers c.args.by.seat look c.args.prepared.decision c.entry_of.result c.self.invariant c.settle-outcome.ensures.names c.push.ensures.entries c.push.ensures.spare
     (ap (λ (e : Entry). e.seat) c.entry_of.ensures) c.requires.seat (ap (λ (e : Entry). e.act) c.entry_of.ensures ∙ ap (λ o. Committed look.doc look.token look.ticket o) c.settle-outcome.ensures.outcome) of none c.requires.decided c.settle-outcome.ensures.settled
 
 pub returns-clause-ok : goal.returns-clause-ok

@@ -38,8 +38,8 @@ overflow_sub-self c =
     let low = c.if-at-len.false in
     held_owed s.journal s.documents.items s.moment s.tokens s.owed s.drivers c.args.doc c.args.token c.self.invariant (omega (arith, len, low)) (λ d at. c.check.ensures d at ∙ c.in_default.is)
 
-pub unqueue-requires-clause-some : goal.unqueue-requires-clause-some
-unqueue-requires-clause-some c = λ d at.
+pub unqueue-requires-clause-waits : goal.unqueue-requires-clause-waits
+unqueue-requires-clause-waits c = λ d at.
     let s = c.self.inside in
     let len = c.len.ensures in
     let low = c.if-at-len.false in
@@ -54,7 +54,7 @@ invariant_of-self c =
     let low = c.if-at-len.false in
     let none = told_by s.journal s.documents.items s.moment s.tokens s.owed s.drivers c.args.doc c.args.token c.self.invariant None (omega (arith, len, low)) (λ d at. c.check.ensures d at ∙ c.in_default.is) in
     let may = subst (λ (v : Shown). staleness c.args.doc c.args.token v.journal ≡ None → MayRefuse v.journal c.args.by.seat c.args.doc c.args.token c.args.ticket c.args.cause) (sym c.self.view_is) c.requires.may none in
-    refused_book s.journal c.push.new.self s.documents.items c.unqueue.new.documents.items s.moment s.tokens s.owed s.drivers c.args.doc c.args.token c.args.ticket c.args.by.seat c.args.cause c.entry_of.result c.self.invariant c.push.ensures.entries c.push.ensures.spare (ap (λ (e : Entry). e.seat) c.entry_of.ensures) (ap (λ (e : Entry). e.act) c.entry_of.ensures) may c.unqueue.ensures
+    refused_book s.journal c.push.new.self s.documents.items c.unqueue.new.self.items s.moment s.tokens s.owed s.drivers c.args.doc c.args.token c.args.ticket c.args.by.seat c.args.cause c.entry_of.result c.self.invariant c.unqueue.ensures.names c.push.ensures.entries c.push.ensures.spare (ap (λ (e : Entry). e.seat) c.entry_of.ensures) (ap (λ (e : Entry). e.act) c.entry_of.ensures) may c.unqueue.ensures.taken
 
 pub returns-clause-ok : goal.returns-clause-ok
 returns-clause-ok c =

@@ -1,12 +1,10 @@
-use Rattle.std.proofs.Common.{rules, ◌≡◌, ◌∙◌, refl, sym, ap, subst, arith, length}
+use Rattle.std.proofs.Common.{rules, ◌≡◌, ◌∙◌, sym, ap, subst, arith, length}
 use Rattle.std.specs.Prelude.{Some, None, nat_lt}
-use Rattle.journal_entries.specs.Journals.{entries}
 use Rattle.journal_entries.specs.declared.act.Entry.{Entry}
+use Rattle.journal_rules.specs.Documents.{waiting}
 use Rattle.journal_rules.specs.Locks.{Holds}
 use Rattle.turn_rules.specs.Locking.{staleness}
 use Rattle.book.specs.Shown.{Shown}
-use Rattle.std.proofs.lemmas.Option.{slice_get_read}
-use Rattle.book.proofs.Booking.{waits_as}
 use Rattle.book.proofs.Locking.{told_by, told_unmade, held_owed, stands_in, released_book}
 use Rattle.book.proofs.book.Book.release.Goals as goal
 
@@ -50,8 +48,8 @@ invariant_of-self c =
     let low = c.if-at-len.false in
     let none = told_by s.journal s.documents.items s.moment s.tokens s.owed s.drivers c.args.doc c.args.token c.self.invariant None (omega (arith, len, low)) (λ d at. c.check.ensures d at ∙ c.in_default.is) in
     let may = subst (λ (v : Shown). staleness c.args.doc c.args.token v.journal ≡ None → Holds c.args.by.seat c.args.doc c.args.token v.journal) (sym c.self.view_is) c.requires.may none in
-    let held = stands_in c.let_go.ensures.was.lock c.args.token (c.check.ensures c.let_go.ensures.was c.let_go.ensures.at ∙ c.in_default.is) in
-    released_book s.journal c.push.new.self s.documents.items c.let_go.new.documents.items s.moment s.tokens s.owed s.drivers c.args.doc c.args.token c.args.by.seat c.entry_of.result c.self.invariant c.push.ensures.entries c.push.ensures.spare (ap (λ (e : Entry). e.seat) c.entry_of.ensures) (ap (λ (e : Entry). e.act) c.entry_of.ensures) may c.let_go.ensures held.1
+    let held = stands_in c.let_go.ensures.freed.was.lock c.args.token (c.check.ensures c.let_go.ensures.freed.was c.let_go.ensures.freed.at ∙ c.in_default.is) in
+    released_book s.journal c.push.new.self s.documents.items c.let_go.new.self.items s.moment s.tokens s.owed s.drivers c.args.doc c.args.token c.args.by.seat c.entry_of.result c.self.invariant c.let_go.ensures.names c.push.ensures.entries c.push.ensures.spare (ap (λ (e : Entry). e.seat) c.entry_of.ensures) (ap (λ (e : Entry). e.act) c.entry_of.ensures) may c.let_go.ensures.freed held.1
 
 pub returns-clause-ok : goal.returns-clause-ok
 returns-clause-ok c =
@@ -59,6 +57,4 @@ returns-clause-ok c =
     let len = c.len.ensures in
     let low = c.if-at-len.false in
     let none = told_by s.journal s.documents.items s.moment s.tokens s.owed s.drivers c.args.doc c.args.token c.self.invariant None (omega (arith, len, low)) (λ d at. c.check.ensures d at ∙ c.in_default.is) in
-    let at = slice_get_read s.documents.items (length s.documents.items) c.args.doc c.index.result.now refl (omega (arith, len, low)) c.index.ensures in
-    let w = waits_as c.args.doc c.index.result.now s.documents.items (entries s.journal) c.self.invariant.stands at in
-    rw (← c.self.view_is) (none, ap (nat_lt 0) (c.len-more.ensures ∙ w), search rules)
+    rw (← c.self.view_is) (none, ap (nat_lt 0) (c.waiting-more.ensures ∙ ap (λ (v : Shown). length (waiting c.args.doc v.journal)) (sym c.self.view_is)), search rules)

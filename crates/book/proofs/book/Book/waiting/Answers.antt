@@ -1,21 +1,20 @@
-use Rattle.std.proofs.Common.{◌∙◌, refl, sym, arith, length}
-use Rattle.std.proofs.lemmas.Option.{slice_get_read}
+use Rattle.std.proofs.Common.{◌≡◌, ◌∙◌, sym, ap}
+use Rattle.std.specs.Prelude.{slice_get, Some, None}
+use Rattle.std.specs.Option.{option_copied}
 use Rattle.journal_entries.specs.Journals.{entries}
+use Rattle.book.proofs.Lists.{none_within}
 use Rattle.book.proofs.Booking.{waits_as, waits_nowhere}
 use Rattle.book.proofs.book.Book.waiting.Goals as goal
 
-pub returns-then-doc-len : goal.returns-then-doc-len
-returns-then-doc-len c =
-    let len = c.len.ensures in
-    let high = c.if-doc-len.true in
-    let w = waits_nowhere c.args.doc c.self.inside.documents.items (entries c.self.inside.journal) c.self.invariant.stands (omega (arith, len, high)) in
-    rw (← c.self.view_is) (sym w)
+pub returns-in_default : goal.returns-in_default
+returns-in_default c =
+    let items = c.self.inside.documents.items in
+    let none : slice_get items c.args.doc ≡ None = sym c.get.ensures ∙ ap option_copied c.in_default.is in
+    rw (← c.self.view_is) (sym (waits_nowhere c.args.doc items (entries c.self.inside.journal) c.self.invariant.stands (none_within items c.args.doc none)))
 
 pub returns : goal.returns
 returns c =
-    let len = c.len.ensures in
-    let low = c.if-doc-len.false in
     let items = c.self.inside.documents.items in
-    let at = slice_get_read items (length items) c.args.doc c.index.result.now refl (omega (arith, len, low)) c.index.ensures in
-    let w = waits_as c.args.doc c.index.result.now items (entries c.self.inside.journal) c.self.invariant.stands at in
-    rw (← c.self.view_is) (c.len-2.ensures ∙ w)
+    let x = c.in-Some.document.now in
+    let at : slice_get items c.args.doc ≡ Some x = sym c.get.ensures ∙ ap option_copied c.in-Some.is in
+    rw (← c.self.view_is) (c.len.ensures ∙ waits_as c.args.doc x items (entries c.self.inside.journal) c.self.invariant.stands at)

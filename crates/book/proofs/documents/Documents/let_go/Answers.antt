@@ -1,0 +1,16 @@
+use Rattle.std.proofs.Common.{rules, ◌≡◌, ◌∙◌, sym, ap}
+use Rattle.std.specs.Prelude.{Some}
+use Rattle.std.specs.Option.{option_copied_mut}
+use Rattle.keyed_store.specs.Stores.{value_at}
+use Rattle.book.specs.Standing.{IsFreed}
+use Rattle.book.proofs.Holders.{names_kept, turned}
+use Rattle.book.proofs.documents.Documents.let_go.Goals as goal
+
+pub returns-clause-names : goal.returns-clause-names
+returns-clause-names c = names_kept c.self.inside.store c.args.self.now c.args.doc (record c.in-Some.document.now { lock = c.let_go.new.self }) c.self.view_is
+
+pub returns-clause-freed : goal.returns-clause-freed
+returns-clause-freed c =
+    let x = c.in-Some.document.now in
+    let at : value_at c.self.inside.store c.args.doc ≡ Some x = sym c.get_mut.ensures.value ∙ ap option_copied_mut c.in-Some.is in
+    turned c.self.inside.store c.args.self.now c.args.doc (record c.in-Some.document.now { lock = c.let_go.new.self }) c.self.view_is (IsFreed) x at (search rules)

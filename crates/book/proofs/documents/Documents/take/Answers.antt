@@ -1,0 +1,18 @@
+use Rattle.std.proofs.Common.{rules, ◌≡◌, ◌∙◌, sym, ap}
+use Rattle.std.specs.Prelude.{Some, true}
+use Rattle.std.specs.Option.{option_copied_mut}
+use Rattle.keyed_store.specs.Stores.{value_at}
+use Rattle.std.specs.Prelude.{◌+◌}
+use Rattle.expiring_lock.specs.declared.lock.TheConstants.{LOCK_LIFE}
+use Rattle.book.specs.Standing.{IsLocked}
+use Rattle.book.proofs.Holders.{names_kept, turned}
+use Rattle.book.proofs.documents.Documents.take.Goals as goal
+
+pub returns-clause-names : goal.returns-clause-names
+returns-clause-names c = names_kept c.self.inside.store c.args.self.now c.args.doc (record c.in-Some.document.now { lock = c.take.new.self }) c.self.view_is
+
+pub returns-clause-taken : goal.returns-clause-taken
+returns-clause-taken c =
+    let x = c.in-Some.document.now in
+    let at : value_at c.self.inside.store c.args.doc ≡ Some x = sym c.get_mut.ensures.value ∙ ap option_copied_mut c.in-Some.is in
+    turned c.self.inside.store c.args.self.now c.args.doc (record c.in-Some.document.now { lock = c.take.new.self }) c.self.view_is (IsLocked (record { last = c.args.next; until = c.args.now + LOCK_LIFE; seat = c.args.seat; held = true })) x at (search rules)

@@ -1,0 +1,52 @@
+//! What is true of looks. The functions here do nothing: their contracts are the laws.
+
+ghost use Rattle.std.specs.Prelude.{◌≡◌, List, ◌++◌, None, All};
+ghost use Rattle.dup_check.specs.declared.snapshot.Snapshot.{Snapshot};
+ghost use Rattle.dup_check.specs.declared.snapshot.Decision.{Decision};
+ghost use Rattle.dup_check.specs.Snapshot.{outcome_of};
+ghost use Rattle.journal_entries.specs.declared.act.Entry.{Entry};
+ghost use Rattle.journal_rules.specs.Deciding.{decided};
+ghost use Rattle.journal_rules.specs.Legal.{IsLegal};
+ghost use Rattle.journal_entries.specs.declared.update.Cause.TheVariants.{Memory};
+ghost use Rattle.journal_rules.specs.Locks.{Holds};
+ghost use Rattle.turn_rules.specs.Locking.{staleness};
+ghost use Rattle.book.specs.Calls.{MayRefuse};
+ghost use Rattle.book.specs.Looking.{IsDecided, IsLookAt, IsNoCommit, IsOf, IsSince};
+
+use crate::book::Book;
+
+/// What [`Book::acquire`] answers is a look of the journal that it leaves.
+pub fn look_begins()
+    ensures { (look : Snapshot) (journal : List Entry) → IsLookAt journal look → IsOf look journal }
+{}
+
+/// A look stays a look of the journal until it is committed: nobody else can commit under its token.
+pub fn look_stays()
+    ensures { (look : Snapshot) (journal more : List Entry) → IsOf look journal → IsLegal (journal ++ more) → All (IsNoCommit look) more → IsOf look (journal ++ more) }
+{}
+
+/// While the token of a look stands, the look's seat holds the document.
+pub fn token_holds()
+    ensures { (look : Snapshot) (journal more : List Entry) → IsSince look journal → IsLegal (journal ++ more) → staleness look.doc look.token (journal ++ more) ≡ None → Holds look.seat look.doc look.token (journal ++ more) }
+{}
+
+/// What holds of a look until it is committed holds of the journal since then.
+pub fn look_was()
+    ensures { (look : Snapshot) (journal : List Entry) → IsOf look journal → IsSince look journal }
+{}
+
+/// While the token of a look stands and isn't used, the look's update may be refused for want of memory.
+pub fn look_may_be_refused()
+    ensures { (look : Snapshot) (journal : List Entry) → IsLegal journal → IsOf look journal → staleness look.doc look.token journal ≡ None → MayRefuse journal look.seat look.doc look.token look.ticket Memory }
+{}
+
+impl Book {
+    /// The fence: while the token of a look stands, what is decided by the look is what the journal as
+    /// it has become decides.
+    pub fn look_decides(&self)
+        ensures { (look : Snapshot) (decision : Decision) → IsOf look self.now.journal → staleness look.doc look.token self.now.journal ≡ None
+            → IsDecided look decision → outcome_of look.version decision ≡ decided self.now.journal look.doc look.update }
+    {
+        let _ = &self.journal;
+    }
+}
