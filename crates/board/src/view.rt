@@ -15,7 +15,7 @@ pub struct View {
     pub seen: LinkedList<Entry>,
     /// The entries that the seat made.
     pub made: LinkedList<Entry>,
-    /// The words that its loads and its exchanges found, in order.
+    /// The words that its loads and its lost exchanges found, in order.
     pub found: LinkedList<u64>,
     /// Of seat 0: how many seats were made, itself included.
     pub count: u64,
