@@ -65,6 +65,7 @@ feed_least front back = least (lt_or_le (feed front) (length front))
   where
     lt_or_le : (a b : ℕ) → (a < b) ⊎ (b ≤ a)
     lt_or_le a b = grind arith
+
     least : (feed front < length front) ⊎ (length front ≤ feed front) → feed front ≤ feed (front ++ back)
     least (inl lt) = let e = feed_in_front front back lt in omega (arith, e)
     least (inr le) = let e = feed_behind front back le in let w = feed_within front in omega (arith, e, w)

@@ -96,7 +96,7 @@ fn patch_hole(alloc: Global, blocks: &mut Vec<Block>, hole: Hole) -> Result<Bloc
 {
     let chunks = fill_hole(alloc, blocks.as_slice(), hole)?;
     let patch = block_patch(alloc, blocks.as_slice(), chunks.from, chunks.to, chunks.new)?;
-    blocks.reserve(patch.new.len())?;
+    blocks.reserve(patch.new.len().saturating_sub(patch.to - patch.from))?;
     Ok(patch)
 }
 
@@ -119,7 +119,11 @@ pub(crate) fn put_patch(
 }
 
 /// The patch that takes the part out.
-pub(crate) fn cut_patch(blocks: &mut Vec<Block>, at: usize, len: usize) -> Result<BlockPatch, AllocError>
+pub(crate) fn cut_patch(
+    blocks: &mut Vec<Block>,
+    at: usize,
+    len: usize,
+) -> Result<BlockPatch, AllocError>
     requires few { length (joined blocks.old.items) < 2 ^ 64 }
     requires blocks { AreBlocks blocks.old.items }
     requires inside { at + len ≤ length (joined (joined blocks.old.items)) }

@@ -8,12 +8,11 @@ ghost use Rattle.ot_text.specs.Chunks.{IsChunk};
 ghost use Rattle.ot_text.specs.Part.{part_within};
 ghost use Rattle.ot_text.specs.Texts.{IsKept};
 
-use crate::OpenText;
 use crate::block::{Block, gather, share_all};
 use crate::hole::cut_into;
 use crate::lines::{TextLines, lines_within};
 use crate::parts::{TextParts, parts_within, units_of};
-use crate::patch;
+use crate::{OpenText, patch};
 use ot_units::Units;
 use std::alloc::{AllocError, Global};
 use std::marker::Model;
@@ -121,7 +120,7 @@ impl Text {
     pub fn lines(&self) -> TextLines<'_>
         ensures lines { result ≡ lines_of self.now }
         ensures joined { joined_lines result ≡ self.now }
-            ensures at_least_one { 0 < length result }
+        ensures at_least_one { 0 < length result }
     {
         lines_within(self.blocks.as_slice(), self.len)
     }
