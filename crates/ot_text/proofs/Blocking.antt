@@ -1,6 +1,6 @@
 -- Chunks in blocks: where they stand, and what becomes of blocks where chunks are replaced.
 use Rattle.std.proofs.Common.{◌≡◌, ℕ, ◌+◌, ◌≤◌, ◌<◌, List, [], ◌∷◌, ◌++◌, refl, ap, ap₂, sym, ◌∙◌, take, drop, length, get_or, arith, zero, suc, ◌-◌}
-use Rattle.std.proofs.lemmas.List.{length-append, get_or_default, take_all, append-nil, append_assoc}
+use Rattle.std.proofs.lemmas.List.{length-append, get_or_default, take_all, drop_all, append-nil, append_assoc}
 use Rattle.std.specs.List.{All}
 use Rattle.std.proofs.lemmas.List.Elements.{All-append, All-cons, All-nil, All-take, All-drop}
 use Rattle.ot_text.specs.Lists.{joined, list_at, IsItemPlace, IsEdgePlace, filled, patched}
@@ -78,3 +78,10 @@ push_units_step cs i c s first made made2 lt is same here e =
 pub gather_step : (bs : List (List (List ℕ))) (i : ℕ) (b s : List (List ℕ)) (made made2 : List ℕ) → i < length bs → b ≡ get_or bs i b → s ≡ b → made ≡ joined (joined (take i bs)) → made2 ≡ made ++ joined s → made2 ≡ joined (joined (take (i + 1) bs))
 gather_step bs i b s made made2 lt is same here e =
     e ∙ ap₂ (λ (x : List ℕ) (y : List (List ℕ)). x ++ joined y) here same ∙ sym (units_next bs i b lt is)
+
+-- all chunks become new ones
+pub all_filled : (bs : List (List (List ℕ))) (from to : ℕ) (new : List (List ℕ)) → from ≡ 0 → to ≡ length (joined bs) → filled bs 0 (length bs) new ≡ patched (joined bs) from to new
+all_filled bs from to new f t =
+    ap (λ (x : List (List (List ℕ))). new ++ joined x) (drop_all (length bs) bs (omega arith))
+    ∙ ap (λ (x : List (List ℕ)). new ++ x) (sym (drop_all to (joined bs) (omega (arith, t))))
+    ∙ ap (λ (n : ℕ). (take n (joined bs) ++ new) ++ drop to (joined bs)) (sym f)

@@ -96,7 +96,7 @@ fn patch_hole(alloc: Global, blocks: &mut Vec<Block>, hole: Hole) -> Result<Bloc
 {
     let chunks = fill_hole(alloc, blocks.as_slice(), hole)?;
     let patch = block_patch(alloc, blocks.as_slice(), chunks.from, chunks.to, chunks.new)?;
-    blocks.reserve(patch.new.len())?;
+    blocks.reserve(patch.new.len().saturating_sub(patch.to - patch.from))?;
     Ok(patch)
 }
 

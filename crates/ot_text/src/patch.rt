@@ -6,7 +6,7 @@ ghost use Rattle.ot_text.specs.Chunks.{IsBlock};
 
 use crate::block::{Block, push_shared};
 use crate::chunk::Chunk;
-use crate::place::block_of;
+use crate::place::{block_of, count_chunks};
 use std::alloc::{AllocError, Global};
 
 /// The most chunks of a block.
@@ -71,6 +71,14 @@ fn open(
     })
 }
 
+/// Whether the chunks from number `from` up to `to` are all there are.
+fn is_all(blocks: &[Block], from: usize, to: usize) -> bool
+    requires { length (joined blocks.now) < 2 ^ 64 }
+    ensures { IsTrue result ↔ ((from ≡ 0) × (to ≡ length (joined blocks.now))) }
+{
+    from == 0 && to == count_chunks(blocks)
+}
+
 /// The hole in the blocks in which the chunks from number `from` up to `to` become the new ones.
 fn block_hole(
     alloc: Global,
@@ -79,6 +87,7 @@ fn block_hole(
     to: usize,
     new: Vec<Chunk>,
 ) -> Result<BlockHole, AllocError>
+    requires few { length (joined blocks.now) < 2 ^ 64 }
     requires ordered { from ≤ to }
     requires inside { to ≤ length (joined blocks.now) }
     ensures inside { IfOk result (λ hole. (hole.from ≤ hole.to) × (hole.to ≤ length blocks.now)) }
@@ -88,6 +97,13 @@ fn block_hole(
         return Ok(BlockHole {
             from: 0,
             to: 0,
+            chunks: new,
+        });
+    }
+    if is_all(blocks, from, to) {
+        return Ok(BlockHole {
+            from: 0,
+            to: blocks.len(),
             chunks: new,
         });
     }
@@ -174,6 +190,7 @@ pub(crate) fn block_patch(
     to: usize,
     new: Vec<Chunk>,
 ) -> Result<BlockPatch, AllocError>
+    requires few { length (joined blocks.now) < 2 ^ 64 }
     requires ordered { from ≤ to }
     requires inside { to ≤ length (joined blocks.now) }
     ensures inside { IfOk result (λ made. (made.from ≤ made.to) × (made.to ≤ length blocks.now)) }

@@ -8,7 +8,7 @@ ghost use Rattle.session_runner.specs.Looking.{IsBare, IsLook, IsTakenUp};
 
 use dup_check::{Decision, Past, Snapshot, Window, decide};
 use journal_entries::{Act, Entry, Outcome, Update};
-use ot_text::DocText;
+use ot_text::{DocText, doc_text};
 use ot_units::{Name, Units};
 use ranges_tracker::Ranges;
 use std::alloc::{AllocError, Global};
@@ -90,7 +90,7 @@ impl Document {
     {
         let past = self.window.since(alloc, update.v)?;
         let update = update.copy(alloc)?;
-        let nothing = Units::from_slice(alloc, &[])?;
+        let nothing = doc_text(alloc, &Units::from_slice(alloc, &[])?)?;
         Ok(Snapshot {
             seat: 0,
             token: 0,
