@@ -21,7 +21,7 @@ use Rattle.journal_rules.specs.Tracking.{cells, tracked}
 use Rattle.journal_rules.proofs.Fencing.{fenced}
 use Rattle.journal_rules.proofs.Legality.{legal_front}
 use Rattle.journal_rules.proofs.Lists.{some_same}
-use Rattle.journal_rules.proofs.Waits.{all_none, update_stays}
+use Rattle.journal_rules.proofs.Waits.{all_none, all_one, update_stays}
 use Rattle.turn_rules.specs.Locking.{staleness}
 use Rattle.book.specs.declared.document.Document.{Document}
 use Rattle.book.specs.Looking.{IsDecided, IsLook, IsLookAt, IsNoCommit, IsOf, IsSince, window_of}
@@ -84,6 +84,9 @@ stays look j more of legal all = record {
     here : IsKnown of.looks.acquiring j
     here = subst (λ (k : List Entry). IsKnown of.looks.acquiring k) (sym of.journal_is)
         (known_more of.looks.acquiring of.more of.early (last_known look.doc of.early (legal_front of.early of.more low) of.looks.acquiring of.looks.last))
+
+pub stays_on : (look : Snapshot) (j k : List Entry) (e : Entry) → k ≡ j ++ e ∷ [] → IsLegal k → IsNoCommit look e → IsOf look j → IsOf look k
+stays_on look j k e is legal apart of = subst (λ (l : List Entry). IsOf look l) (sym is) (stays look j (e ∷ []) of (subst IsLegal is legal) (all_one (IsNoCommit look) e apart))
 
 abbrev pub since_of : (look : Snapshot) (j : List Entry) → IsOf look j → IsSince look j
 since_of look j of = record { early = of.early; more = of.more; journal_is = of.journal_is; looks = of.looks }
