@@ -2,6 +2,7 @@
 
 ghost use Rattle.std.specs.Prelude.{◌≡◌, ◌<◌, ◌≤◌, ◌+◌, ◌∷◌, [], length, nat_lt, false, IfOk, IfErr, IfSome, OnOk, OnErr, None, Some};
 ghost use Rattle.journal_entries.specs.Journals.{entries};
+ghost use Rattle.journal_entries.specs.declared.limits.TheConstants.{MAX_RAW_SOURCE};
 ghost use Rattle.journal_entries.specs.declared.act.Act.TheVariants.{Made, Ticked, Declined, Closed};
 ghost use Rattle.journal_rules.specs.Documents.{IsMade, is_in, makings, number_of, waiting};
 ghost use Rattle.journal_rules.specs.Deciding.{longest};
@@ -16,15 +17,12 @@ use crate::document::Document;
 use crate::documents::Documents;
 use crate::faults::{By, MakeFault, RawFault, RawUpdate, TickFault};
 use crate::room::make_room;
-use journal_entries::{Act, Entry, Journal, Update, Why};
+use journal_entries::{Act, Entry, Journal, MAX_MOMENT, Update, Why};
 use ot_op::Op;
 use ot_text::doc_text;
 use ot_units::{Name, Units};
 use std::alloc::{AllocError, Global};
 use std::marker::Model;
-
-/// The greatest moment of the clock, in milliseconds.
-const CLOCK_END: u64 = 4_611_686_018_427_387_904;
 
 /// A legal journal, and the documents as it has them. Contracts see the journal and the number of drivers.
 #[derive(Drop)]
@@ -114,7 +112,7 @@ impl Book {
         ensures refused { IfErr result (λ f. MayNotTick self.old.journal ms f) }
         ensures kept { OnErr result (self.new ≡ self.old) }
     {
-        if ms > CLOCK_END - self.moment {
+        if ms > MAX_MOMENT - self.moment {
             return Err(TickFault::ClockEnd { now: self.moment });
         }
         let Ok(_sum) = make_room(&mut self.journal, self.owed, 1) else {
@@ -127,7 +125,7 @@ impl Book {
 
     /// Sends a raw update, and answers its ticket; one whose operation isn't in form is noted, and has none.
     pub fn send_raw(&mut self, by: By, raw: &RawUpdate) -> Result<Option<u64>, RawFault>
-        requires source { raw.now.source ≤ 999999 }
+        requires source { raw.now.source ≤ MAX_RAW_SOURCE }
         requires within { IfOk raw.now.op IsRaw }
         ensures sent { IfOk result (λ t. IsMade raw.now.doc self.old.journal × (t ≡ ticket_of_raw raw.now.op (length self.old.journal))
             × (self.new ≡ adds self.old by.seat by.line (raw_act (clock self.old.journal) raw.now ∷ []))) }

@@ -1,0 +1,24 @@
+//! A book on a board, for seats that take turns on it.
+
+use crate::book::Book;
+use board::Journaled;
+
+impl Journaled for Book {
+    ghost journal = { λ b. b.journal };
+
+    ghost drivers = { λ b. b.drivers };
+
+    ghost start = { λ _. 0 };
+
+    fn length(&self) -> u64 {
+        self.journal.len()
+    }
+
+    fn drivers(&self) -> u32 {
+        self.drivers
+    }
+
+    fn start(&self) -> u64 {
+        0
+    }
+}
