@@ -42,3 +42,20 @@ marked_kept ranges text user r t =
     subst (λ (x : List Change × List Comment). IsKept text 3 x) (sym r)
     (subst (λ (x : List ℕ). IsKept x 3 (marked_changes user, marked_comments)) (sym t)
     (record { agree = form_agree (marked_changes user, marked_comments) (97 ∷ 10 ∷ 98 ∷ []) (marked_form user); since = each_all (λ (c : Change). c.version < 3) (marked_changes user) (omega arith, tt); long = omega arith; bound = omega arith }))
+
+bare_form : (text : List ℕ) → IsKeptForm ([], []) text
+bare_form text = record {
+  filled = each_all (λ (c : Change). 0 < length c.text) [] tt;
+  ids = pairs_all IdsDiffer [] tt;
+  places = pairs_all IsBehind [] tt;
+  changes = each_all (StandsIn text) [] tt;
+  threads = pairs_all ThreadsDiffer [] tt;
+  comments = each_all (λ (c : Comment). stands text c.at c.text ≡ true) [] tt;
+}
+
+-- `a` and the empty line, without ranges
+pub two_lines_kept : (ranges : List Change × List Comment) (text : List ℕ) → ranges ≡ ([], []) → text ≡ 97 ∷ 10 ∷ [] → IsKept text 1 ranges
+two_lines_kept ranges text r t =
+    subst (λ (x : List Change × List Comment). IsKept text 1 x) (sym r)
+    (subst (λ (x : List ℕ). IsKept x 1 ([], [])) (sym t)
+    (record { agree = form_agree ([], []) (97 ∷ 10 ∷ []) (bare_form (97 ∷ 10 ∷ [])); since = each_all (λ (c : Change). c.version < 1) [] tt; long = omega arith; bound = omega arith }))

@@ -4,7 +4,7 @@ ghost use Rattle.std.specs.Prelude.{◌≡◌, ◌∷◌, [], ◌<◌, ◌+◌, 
 ghost use Rattle.ot_op.specs.Operation.{is_void, units_of};
 ghost use Rattle.ranges_tracker.specs.Trackable.{AreRangesAt};
 
-use crate::{Change, ChangeKind, Comment, KeptDoc, Ranges, Stamp, track, track_op};
+use crate::{Change, ChangeKind, Comment, KeptDoc, Lines, Ranges, Stamp, track, track_op};
 use Kind::{Comments, Deletes, Inserts};
 use ot_op::{Comp, Op, apply};
 use ot_units::{Name, Units};
@@ -537,5 +537,21 @@ fn keeps_lines(rt: HostRuntime) -> Result<(), Fail> {
         let text = kept.text(alloc)?;
         assert_eq!(rt; text.as_slice(), [0x61, 0x0A, 0x62].as_slice());
     }
+    Ok(())
+}
+
+#[test]
+fn makes_lines_piece_by_piece(rt: HostRuntime) -> Result<(), Fail> {
+    let alloc = rt.alloc();
+    let mut lines = Lines::start(alloc)?;
+    assert_eq!(rt; lines.as_slice().len(), 1);
+    lines.extend(&[0x61])?;
+    lines.next_line()?;
+    let doc = KeptDoc::of_lines(alloc, lines, 1, &Ranges::none(alloc))?;
+    let made = doc.lines().as_slice();
+    assert_eq!(rt; made.len(), 2);
+    assert_eq!(rt; made[0].as_slice(), [0x61].as_slice());
+    assert!(rt; made[1].is_empty());
+    assert_eq!(rt; doc.version(), 1);
     Ok(())
 }
