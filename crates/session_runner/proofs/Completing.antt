@@ -1,109 +1,175 @@
--- What a run comes to where only memory may be wanting.
+-- What a run comes to, by what was taken of its input.
 use Rattle.std.proofs.Common.{◌≡◌, ◌⊎◌, inl, inr, ℕ, ◌<◌, ◌≤◌, List, [], ◌∷◌, ◌++◌, length, take, String, refl, sym, ap, ◌∙◌, subst, arith, append-nil, length-append}
 use Rattle.std.specs.Prelude.{Option, Some, None}
 use Rattle.std.specs.declared.alloc.Global.{Global}
-use Rattle.std.specs.Io.KnownBytes.{Consumes, Appends, IsAtEnd}
-use Rattle.source_sink.specs.Causes.{Rose}
+use Rattle.std.specs.Io.KnownBytes.{Consumes, Appends, IsAtEnd, Keeps}
 use Rattle.source_sink.specs.declared.read.TheConstants.{INPUT_LIMIT}
 use Rattle.session_runner.specs.declared.ending.Ending.{Ending}
 use Rattle.session_runner.specs.declared.ending.Ending.TheVariants as ending
 use Rattle.session_runner.specs.declared.ending.LineFault.{LineFault}
-use Rattle.session_runner.specs.Ending.{Explains, IsPart, IsTold, IsTextTold, WasWhole, line_fault, status_of, text_of}
-use Rattle.session_runner.specs.Run.{Completes, IsCutShort, IsQuietRun, IsToWrite}
+use Rattle.session_runner.specs.Ending.{AreRun, Explains, IsPart, IsTold, IsTextTold, IsWriting, WasLong, WasWhole, line_fault, status_of, text_of}
+use Rattle.session_runner.specs.Passing.{MayFail, Passed}
+use Rattle.session_runner.specs.Run.{Answers, Completes, IsCutShort, IsEither, IsEitherRead, IsQuietRun, IsToWrite, IsWanting}
 use Rattle.session_runner.proofs.Lists.{same_item}
 
 -- a text that was told as an ending's own
-pub told_text : (before after : Option (List ℕ)) (count now own : ℕ) (text : List ℕ) (end : Ending) (status : ℕ) → status_of end ≡ own → text_of end ≡ text → IsTextTold before after count now own text status → IsTold before after count now end status
-told_text before after count now own text end status own_is text_is (inl t) = inl (t.0 ∙ sym own_is, subst (λ l. Appends before after l) (sym text_is) t.1)
-told_text before after count now own text end status own_is text_is (inr t) = inr (inl (t.0, t.1, subst (λ l. IsPart before after l) (sym text_is) t.2))
+pub told_text : (out : Passed) (own : ℕ) (text : List ℕ) (end : Ending) (status : ℕ) → IsWriting end → status_of end ≡ own → text_of end ≡ text → IsTextTold out own text status → IsTold out end status
+told_text out own text end status writes own_is text_is (inl t) = inl (t.0 ∙ sym own_is, subst (λ l. Appends out.before out.after l) (sym text_is) t.1)
+told_text out own text end status writes own_is text_is (inr t) = inr (inl (t.0, t.1, writes, subst (λ l. IsPart out l) (sym text_is) t.2))
 
-consumed_short : (left rest : Option (List ℕ)) (input bytes : List ℕ) → left ≡ Some input → Consumes left rest bytes → length bytes ≤ length input
-consumed_short None rest input bytes is c = absurd (cc)
-consumed_short (Some xs) None input bytes is c = absurd c
-consumed_short (Some xs) (Some ys) input bytes is c =
-    let same = ap length (same_item xs input is) in
+consumed_short : (left rest : Option (List ℕ)) (all bytes : List ℕ) → left ≡ Some all → Consumes left rest bytes → length bytes ≤ length all
+consumed_short None rest all bytes is c = absurd (cc)
+consumed_short (Some xs) None all bytes is c = absurd c
+consumed_short (Some xs) (Some ys) all bytes is c =
+    let same = ap length (same_item xs all is) in
     let long = ap length c ∙ length-append bytes ys in
     omega (arith, same, long)
 
-consumed_whole : (left rest : Option (List ℕ)) (input bytes : List ℕ) → left ≡ Some input → Consumes left rest bytes → IsAtEnd rest → bytes ≡ input
-consumed_whole None rest input bytes is c end = absurd (cc)
-consumed_whole (Some xs) None input bytes is c end = absurd c
-consumed_whole (Some xs) (Some ys) input bytes is c end = sym (c ∙ ap (λ l. bytes ++ l) end ∙ append-nil bytes) ∙ same_item xs input is
+consumed_whole : (left rest : Option (List ℕ)) (all bytes : List ℕ) → left ≡ Some all → Consumes left rest bytes → IsAtEnd rest → bytes ≡ all
+consumed_whole None rest all bytes is c end = absurd (cc)
+consumed_whole (Some xs) None all bytes is c end = absurd c
+consumed_whole (Some xs) (Some ys) all bytes is c end = sym (c ∙ ap (λ l. bytes ++ l) end ∙ append-nil bytes) ∙ same_item xs all is
 
-module _ (words : List (String Global)) (left rest : Option (List ℕ)) (sc sn wc wn status : ℕ) (input : List ℕ) (quiet : IsQuietRun words left sc sn wc wn input) where
-  whole_is : (bytes : List ℕ) → WasWhole left rest bytes → bytes ≡ input
-  whole_is bytes whole = consumed_whole left rest input bytes quiet.told whole.consumed whole.at_end
+-- what was taken is the same, however it is cut
+taken_once : (left rest : Option (List ℕ)) (all one other : List ℕ) → left ≡ Some all → Consumes left rest one → Consumes left rest other → length one ≡ length other
+taken_once None rest all one other is c d = absurd (cc)
+taken_once (Some xs) None all one other is c d = absurd c
+taken_once (Some xs) (Some ys) all one other is c d =
+    let a = ap length c ∙ length-append one ys in let b = ap length d ∙ length-append other ys in omega (arith, a, b)
 
-  script_by : (end : Ending) → Explains words left rest sc sn end → status ≡ status_of end → length input ≤ INPUT_LIMIT → line_fault input ≡ None → (status ≡ 0) ⊎ (status ≡ 4)
-  script_by ending.Words why is short none = absurd (why.0 quiet.run)
-  script_by ending.Read why is short none = absurd (quiet.read why.1)
-  script_by ending.Long why is short none = let l = consumed_short left rest input why.1.0 quiet.told why.1.1.consumed in let h = why.1.1.long in absurd (omega (arith, l, h, short))
-  script_by ending.Memory why is short none = inr is
-  script_by (ending.Script fault) why is short none =
-      let clash : Some fault ≡ None = sym why.1.2 ∙ ap line_fault (whole_is why.1.0 why.1.1) ∙ none in absurd (cc)
-  script_by (ending.Done desk) why is short none = inl is
+module _ (words : List (String Global)) (input out : Passed) (status : ℕ) where
+  -- ---- by what was taken
+  module _ (all : List ℕ) (run : AreRun words) (told : input.before ≡ Some all) where
+    whole_is : (bytes : List ℕ) → WasWhole input bytes → bytes ≡ all
+    whole_is bytes whole = consumed_whole input.before input.after all bytes told whole.consumed whole.at_end
 
-  fault_by : (end : Ending) → Explains words left rest sc sn end → status ≡ status_of end → length input ≤ INPUT_LIMIT → (fault : LineFault) → line_fault input ≡ Some fault → (status ≡ 3) ⊎ (status ≡ 4)
-  fault_by ending.Words why is short fault named = absurd (why.0 quiet.run)
-  fault_by ending.Read why is short fault named = absurd (quiet.read why.1)
-  fault_by ending.Long why is short fault named = let l = consumed_short left rest input why.1.0 quiet.told why.1.1.consumed in let h = why.1.1.long in absurd (omega (arith, l, h, short))
-  fault_by ending.Memory why is short fault named = inr is
-  fault_by (ending.Script found) why is short fault named = inl is
-  fault_by (ending.Done desk) why is short fault named =
-      let clash : Some fault ≡ None = sym named ∙ ap line_fault (sym (whole_is why.1.0 why.1.1)) ∙ why.1.2.no_fault in absurd (cc)
+    abbrev Reads : ℕ → Type 0
+    Reads own = (status ≡ own) ⊎ (status ≡ 4) ⊎ ((status ≡ 5) × MayFail input)
 
-  long_by : (end : Ending) → Explains words left rest sc sn end → status ≡ status_of end → INPUT_LIMIT < length input → (status ≡ 8) ⊎ (status ≡ 4)
-  long_by ending.Words why is long = absurd (why.0 quiet.run)
-  long_by ending.Read why is long = absurd (quiet.read why.1)
-  long_by ending.Long why is long = inl is
-  long_by ending.Memory why is long = inr is
-  long_by (ending.Script fault) why is long = let l = ap length (whole_is why.1.0 why.1.1) in let s = why.1.1.short in absurd (omega (arith, l, s, long))
-  long_by (ending.Done desk) why is long = let l = ap length (whole_is why.1.0 why.1.1) in let s = why.1.1.short in absurd (omega (arith, l, s, long))
+    not_long : (bytes : List ℕ) → length bytes ≤ INPUT_LIMIT → Consumes input.before input.after bytes → ((long : List ℕ) × WasLong input long) → ⊥
+    not_long bytes short consumed x = let same = taken_once input.before input.after all bytes x.0 told consumed x.1.consumed in let l = x.1.long in omega (arith, same, l, short)
 
-  told_by : (written new : Option (List ℕ)) (end : Ending) (n : ℕ) → IsTold written new wc wn end status → (status ≡ status_of end → (status ≡ n) ⊎ (status ≡ 4)) → (status ≡ n) ⊎ (status ≡ 4)
-  told_by written new end n (inl t) own = own t.0
-  told_by written new end n (inr (inl t)) own = absurd (quiet.written t.1)
-  told_by written new end n (inr (inr t)) own = inr t.0
+    script_by : (end : Ending) → Explains words input end → status ≡ status_of end → WasWhole input all → line_fault all ≡ None → Reads 0
+    script_by ending.Words why is whole none = absurd (why.0 run)
+    script_by ending.Read why is whole none = inr (inr (is, why.1.1.failed))
+    script_by ending.Long why is whole none = absurd (not_long all whole.short whole.consumed why.1)
+    script_by ending.Memory why is whole none = inr (inl is)
+    script_by (ending.Script fault) why is whole none = let clash : Some fault ≡ None = sym why.1.2 ∙ ap line_fault (whole_is why.1.0 why.1.1) ∙ none in absurd (cc)
+    script_by (ending.Done book) why is whole none = inl is
 
-pub completes : (words : List (String Global)) (left rest written new : Option (List ℕ)) (sc sn wc wn : ℕ) (end : Ending) (status : ℕ) → Explains words left rest sc sn end → IsTold written new wc wn end status → Completes words left sc sn wc wn status
-completes words left rest written new sc sn wc wn end status why told = record {
-  script = λ input quiet short none. told_by words left rest sc sn wc wn status input quiet written new end 0 told (λ is. script_by words left rest sc sn wc wn status input quiet end why is short none);
-  no_script = λ input quiet short fault named. told_by words left rest sc sn wc wn status input quiet written new end 3 told (λ is. fault_by words left rest sc sn wc wn status input quiet end why is short fault named);
-  too_long = λ input quiet long. told_by words left rest sc sn wc wn status input quiet written new end 8 told (λ is. long_by words left rest sc sn wc wn status input quiet end why is long);
-}
+    fault_by : (end : Ending) → Explains words input end → status ≡ status_of end → WasWhole input all → (fault : LineFault) → line_fault all ≡ Some fault → Reads 3
+    fault_by ending.Words why is whole fault named = absurd (why.0 run)
+    fault_by ending.Read why is whole fault named = inr (inr (is, why.1.1.failed))
+    fault_by ending.Long why is whole fault named = absurd (not_long all whole.short whole.consumed why.1)
+    fault_by ending.Memory why is whole fault named = inr (inl is)
+    fault_by (ending.Script found) why is whole fault named = inl is
+    fault_by (ending.Done book) why is whole fault named = let clash : Some fault ≡ None = sym named ∙ ap line_fault (sym (whole_is why.1.0 why.1.1)) ∙ why.1.2.no_fault in absurd (cc)
 
--- ---- a text that was cut short
+    long_by : (end : Ending) → Explains words input end → IsTold out end status → (bytes : List ℕ) → WasLong input bytes → (status ≡ 8) ⊎ ((status ≡ 6) × MayFail out)
+    long_by ending.Words why told_so bytes long = absurd (why.0 run)
+    long_by ending.Read why told_so bytes long = absurd (not_long why.1.0 why.1.1.short why.1.1.consumed (bytes, long))
+    long_by ending.Long why (inl t) bytes long = inl t.0
+    long_by ending.Long why (inr (inl t)) bytes long = inr (t.0, t.1)
+    long_by ending.Long why (inr (inr t)) bytes long = absurd t.1
+    long_by ending.Memory why told_so bytes long = absurd (not_long why.1.0 why.1.2 why.1.1 (bytes, long))
+    long_by (ending.Script fault) why told_so bytes long = absurd (not_long why.1.0 why.1.1.short why.1.1.consumed (bytes, long))
+    long_by (ending.Done book) why told_so bytes long = absurd (not_long why.1.0 why.1.1.short why.1.1.consumed (bytes, long))
 
-to_write : (words : List (String Global)) (left rest : Option (List ℕ)) (sc sn : ℕ) (end : Ending) → Explains words left rest sc sn end → IsToWrite words left rest sc sn (text_of end)
-to_write words left rest sc sn ending.Words why = inl (why.0, refl)
-to_write words left rest sc sn ending.Read why = inr (inl (why.0, why.1, refl))
-to_write words left rest sc sn ending.Long why = inr (inr (inl (why.0, why.1, refl)))
-to_write words left rest sc sn ending.Memory why = inr (inr (inr (inr (inr refl))))
-to_write words left rest sc sn (ending.Script fault) why = inr (inr (inr (inl (why.0, (why.1.0, fault, why.1.1, why.1.2, refl)))))
-to_write words left rest sc sn (ending.Done desk) why = inr (inr (inr (inr (inl (why.0, (why.1.0, desk.journal.items, why.1.1, why.1.2, refl))))))
+    either_by : (end : Ending) (own : ℕ) → IsTold out end status → (status ≡ status_of end → Reads own) → IsEitherRead input out own status
+    either_by end own (inl t) reads = by (reads t.0)
+      where
+        by : Reads own → IsEitherRead input out own status
+        by (inl is) = inl (inl is)
+        by (inr (inl is)) = inl (inr (inl is))
+        by (inr (inr is)) = inr is
+    either_by end own (inr (inl t)) reads = inl (inr (inr (t.0, t.1)))
+    either_by end own (inr (inr t)) reads = inl (inr (inl t.0))
 
--- no ending has the status of a sink that failed, and the one of want of memory writes nothing
-own_six : (end : Ending) (n : ℕ) → n ≡ status_of end → n ≡ 6 → ⊥
-own_six ending.Words n is six = omega (arith, is, six)
-own_six ending.Read n is six = omega (arith, is, six)
-own_six ending.Long n is six = omega (arith, is, six)
-own_six ending.Memory n is six = omega (arith, is, six)
-own_six (ending.Script fault) n is six = omega (arith, is, six)
-own_six (ending.Done desk) n is six = omega (arith, is, six)
+  pub answers : (end : Ending) → Explains words input end → IsTold out end status → Answers words input out status
+  answers end why told_so = record {
+    script = λ bytes run told whole none. either_by bytes run told end 0 told_so (λ is. script_by bytes run told end why is whole none);
+    no_script = λ bytes fault run told whole named. either_by bytes run told end 3 told_so (λ is. fault_by bytes run told end why is whole fault named);
+    too_long = λ all bytes run told long. long_by all run told end why told_so bytes long;
+  }
 
-whole_part : (written new : Option (List ℕ)) (text : List ℕ) → Appends written new text → IsPart written new text
-whole_part written new text a = (length text, omega arith, subst (λ l. Appends written new l) (sym (take_all text)) a)
-  where
-    take_all : (l : List ℕ) → take (length l) l ≡ l
-    take_all [] = refl
-    take_all (x ∷ xs) = ap (λ l. x ∷ l) (take_all xs)
+  -- ---- where nothing fails but memory
+  module _ (bytes : List ℕ) (quiet : IsQuietRun words input out bytes) where
+    -- then all was taken, or memory was wanting, or more than the limit was taken
+    quiet_by : (end : Ending) → Explains words input end → IsTold out end status → length bytes ≤ INPUT_LIMIT → (own : ℕ) → ((e : Ending) → Explains words input e → status ≡ status_of e → WasWhole input bytes → (status ≡ own) ⊎ (status ≡ 4)) → (status ≡ own) ⊎ (status ≡ 4)
+    quiet_by end why (inr (inl t)) short own by = absurd (quiet.written t.1)
+    quiet_by end why (inr (inr t)) short own by = inr t.0
+    quiet_by ending.Words why (inl t) short own by = absurd (why.0 quiet.run)
+    quiet_by ending.Read why (inl t) short own by = absurd (quiet.read why.1.1.failed)
+    quiet_by ending.Long why (inl t) short own by = let l = consumed_short input.before input.after bytes why.1.0 quiet.told why.1.1.consumed in let h = why.1.1.long in absurd (omega (arith, l, h, short))
+    quiet_by ending.Memory why (inl t) short own by = inr t.0
+    quiet_by (ending.Script fault) why (inl t) short own by = by (ending.Script fault) why t.0 (subst (λ (b : List ℕ). WasWhole input b) (whole_is bytes quiet.run quiet.told why.1.0 why.1.1) why.1.1)
+    quiet_by (ending.Done book) why (inl t) short own by = by (ending.Done book) why t.0 (subst (λ (b : List ℕ). WasWhole input b) (whole_is bytes quiet.run quiet.told why.1.0 why.1.1) why.1.1)
 
-pub cut_short : (words : List (String Global)) (left rest written new : Option (List ℕ)) (sc sn wc wn : ℕ) (end : Ending) (status : ℕ) → Explains words left rest sc sn end → IsTold written new wc wn end status → status ≡ 6 → Rose wc wn × IsCutShort words left rest sc sn written new
-cut_short words left rest written new sc sn wc wn end status why (inl t) six = absurd (own_six end status t.0 six)
-cut_short words left rest written new sc sn wc wn end status why (inr (inl t)) six = (t.1, (text_of end, to_write words left rest sc sn end why, t.2))
-cut_short words left rest written new sc sn wc wn end status why (inr (inr t)) six = let four = t.0 in absurd (omega (arith, four, six))
+    unread : (own : ℕ) → (status ≡ own) ⊎ (status ≡ 4) ⊎ ((status ≡ 5) × MayFail input) → (status ≡ own) ⊎ (status ≡ 4)
+    unread own (inl is) = inl is
+    unread own (inr (inl is)) = inr is
+    unread own (inr (inr is)) = absurd (quiet.read is.1)
 
-pub memory_wanting : (words : List (String Global)) (left rest written new : Option (List ℕ)) (sc sn wc wn : ℕ) (end : Ending) (status : ℕ) → Explains words left rest sc sn end → IsTold written new wc wn end status → status ≡ 4 → IsCutShort words left rest sc sn written new
-memory_wanting words left rest written new sc sn wc wn end status why (inl t) four = (text_of end, to_write words left rest sc sn end why, whole_part written new (text_of end) t.1)
-memory_wanting words left rest written new sc sn wc wn end status why (inr (inl t)) four = let six = t.0 in absurd (omega (arith, six, four))
-memory_wanting words left rest written new sc sn wc wn end status why (inr (inr t)) four = (text_of end, to_write words left rest sc sn end why, t.1)
+    quiet_long : (end : Ending) → Explains words input end → IsTold out end status → INPUT_LIMIT < length bytes → (status ≡ 8) ⊎ (status ≡ 4)
+    quiet_long end why (inr (inl t)) long = absurd (quiet.written t.1)
+    quiet_long end why (inr (inr t)) long = inr t.0
+    quiet_long ending.Words why (inl t) long = absurd (why.0 quiet.run)
+    quiet_long ending.Read why (inl t) long = absurd (quiet.read why.1.1.failed)
+    quiet_long ending.Long why (inl t) long = inl t.0
+    quiet_long ending.Memory why (inl t) long = inr t.0
+    quiet_long (ending.Script fault) why (inl t) long = let l = ap length (whole_is bytes quiet.run quiet.told why.1.0 why.1.1) in let s = why.1.1.short in absurd (omega (arith, l, s, long))
+    quiet_long (ending.Done book) why (inl t) long = let l = ap length (whole_is bytes quiet.run quiet.told why.1.0 why.1.1) in let s = why.1.1.short in absurd (omega (arith, l, s, long))
+
+  pub completes : (end : Ending) → Explains words input end → IsTold out end status → Completes words input out status
+  completes end why told_so = record {
+    script = λ bytes quiet short none. quiet_by bytes quiet end why told_so short 0 (λ e e_why is whole. unread bytes quiet 0 (script_by bytes quiet.run quiet.told e e_why is whole none));
+    no_script = λ bytes quiet short fault named. quiet_by bytes quiet end why told_so short 3 (λ e e_why is whole. unread bytes quiet 3 (fault_by bytes quiet.run quiet.told e e_why is whole fault named));
+    too_long = λ bytes quiet long. quiet_long bytes quiet end why told_so long;
+  }
+
+  -- ---- a text that was cut short
+  to_write : (end : Ending) → IsWriting end → Explains words input end → IsToWrite words input (text_of end)
+  to_write ending.Words writes why = inl (why.0, why.1, refl)
+  to_write ending.Read writes why = inr (inl (why.0, why.1, refl))
+  to_write ending.Long writes why = inr (inr (inl (why.0, why.1, refl)))
+  to_write ending.Memory writes why = absurd writes
+  to_write (ending.Script fault) writes why = inr (inr (inr (inl (why.0, (why.1.0, fault, why.1.1, why.1.2, refl)))))
+  to_write (ending.Done book) writes why = inr (inr (inr (inr (why.0, (why.1.0, book.journal, why.1.1, why.1.2, refl)))))
+
+  no_six : (end : Ending) → status_of end ≡ 6 → ⊥
+  no_six ending.Words e = omega (arith, e)
+  no_six ending.Read e = omega (arith, e)
+  no_six ending.Long e = omega (arith, e)
+  no_six ending.Memory e = omega (arith, e)
+  no_six (ending.Script fault) e = omega (arith, e)
+  no_six (ending.Done book) e = omega (arith, e)
+
+  pub cut_short : (end : Ending) → Explains words input end → IsTold out end status → status ≡ 6 → IsCutShort words input out
+  cut_short end why (inl t) six = absurd (no_six end (sym t.0 ∙ six))
+  cut_short end why (inr (inl t)) six = (t.1, (text_of end, to_write end t.2 why, t.3))
+  cut_short end why (inr (inr t)) six = let four = t.0 in absurd (omega (arith, four, six))
+
+  pub memory_wanting : (end : Ending) → Explains words input end → IsTold out end status → status ≡ 4 → IsWanting words input out
+  memory_wanting end why (inr (inl t)) four = let six = t.0 in absurd (omega (arith, six, four))
+  memory_wanting ending.Words why (inr (inr t)) four = absurd t.1
+  memory_wanting ending.Read why (inr (inr t)) four = absurd t.1
+  memory_wanting ending.Long why (inr (inr t)) four = absurd t.1
+  memory_wanting ending.Memory why (inr (inr t)) four = (why.0, inl t.2)
+  memory_wanting (ending.Script fault) why (inr (inr t)) four = (why.0, inl t.2)
+  memory_wanting (ending.Done book) why (inr (inr t)) four = (why.0, inr (why.1.0, book.journal, why.1.1, why.1.2, t.2))
+  memory_wanting ending.Memory why (inl t) four = (why.0, inl t.1)
+  memory_wanting ending.Words why (inl t) four = let own = t.0 in absurd (omega (arith, own, four))
+  memory_wanting ending.Read why (inl t) four = let own = t.0 in absurd (omega (arith, own, four))
+  memory_wanting ending.Long why (inl t) four = let own = t.0 in absurd (omega (arith, own, four))
+  memory_wanting (ending.Script fault) why (inl t) four = let own = t.0 in absurd (omega (arith, own, four))
+  memory_wanting (ending.Done book) why (inl t) four = let own = t.0 in absurd (omega (arith, own, four))
+
+  pub other_words : (end : Ending) → Explains words input end → IsTold out end status → ¬ AreRun words → ((status ≡ 2) ⊎ ((status ≡ 6) × MayFail out)) × Keeps input.before input.after
+  other_words ending.Words why (inl t) other = (inl t.0, why.1)
+  other_words ending.Words why (inr (inl t)) other = (inr (t.0, t.1), why.1)
+  other_words ending.Words why (inr (inr t)) other = absurd t.1
+  other_words ending.Read why t other = absurd (other why.0)
+  other_words ending.Long why t other = absurd (other why.0)
+  other_words ending.Memory why t other = absurd (other why.0)
+  other_words (ending.Script fault) why t other = absurd (other why.0)
+  other_words (ending.Done book) why t other = absurd (other why.0)

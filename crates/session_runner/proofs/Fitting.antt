@@ -1,6 +1,6 @@
 -- The lines of a script that was read fit a journal.
 use Rattle.std.proofs.Common.{◌≡◌, ◌⊎◌, inl, inr, ℕ, ◌+◌, ◌<◌, ◌≤◌, List, [], ◌∷◌, ◌++◌, Bool, true, false, not, cond, ◌||◌, refl, sym, ap, ◌∙◌, subst, arith, length, append-nil, append_assoc}
-use Rattle.std.specs.Prelude.{Option, Some, None, Result, Ok, Err, IfOk, ◌&&◌, nat_lt, map, option_map, position, if◌then◌else◌}
+use Rattle.std.specs.Prelude.{Option, Some, None, Result, Ok, Err, IfOk, ◌&&◌, nat_lt, map, option_map, position, sum_by, if◌then◌else◌}
 use Rattle.std.specs.List.{list_any, list_all, position_or_len}
 use Rattle.std.proofs.lemmas.Bool.{cases_lt, ltb-true, lt-ltb, not-true, and_parts}
 use Rattle.std.proofs.lemmas.List.{length-map}
@@ -8,14 +8,15 @@ use Rattle.ot_op.specs.declared.comp.Comp.{Comp}
 use Rattle.ot_op.specs.declared.fault.FormFault.{FormFault}
 use Rattle.ot_json.specs.Grammar.{IsWithinLimits}
 use Rattle.journal_rules.specs.Documents.{Making, is_named}
-use Rattle.journal_rules.specs.Legal.{IsRaw}
+use Rattle.journal_rules.specs.Legal.{IsRaw, clock_end}
+use Rattle.expiring_lock.specs.declared.lock.TheConstants.{LOCK_LIFE}
 use Rattle.session_lines.specs.Names.{same_name}
 use Rattle.session_lines.specs.Script.{documents_of, makes_document, may_make, may_join, may_follow}
-use Rattle.session_lines.specs.Standing.{IsWithin, AreStanding}
+use Rattle.session_lines.specs.Standing.{AreSlow, AreStanding, IsWithin, moved_by}
 use Rattle.session_lines.specs.declared.line.Line.{Line}
 use Rattle.session_lines.specs.declared.line.Line.TheVariants.{Doc, Raw}
 use Rattle.session_runner.specs.Ending.{first_unbuilt}
-use Rattle.session_runner.specs.Script.{AreBuilt, AreFit, IsFit, is_built, makings_by}
+use Rattle.session_runner.specs.Fitting.{AreBuilt, AreFit, IsFit, is_built, makings_by}
 
 abbrev all_makings : List Making → List Line → List Making
 all_makings ms [] = ms
@@ -106,3 +107,12 @@ none_unbuilt ls none = by (position (λ l. not (is_built l)) ls) refl none
     by : (o : Option ℕ) → position (λ l. not (is_built l)) ls ≡ o → option_map (λ k. k + 1) o ≡ None → AreBuilt ls
     by None is e = all_built ls is
     by (Some k) is e = absurd (cc)
+
+-- ---- the clock
+-- of a longer text, lines are as slow
+pub slower : (n m : ℕ) (ls : List Line) → n ≤ m → AreSlow n ls → AreSlow m ls
+slower n m ls le slow = omega (arith, le, slow)
+
+-- the ticks of a script leave the clock below its end, and room for the tick of the end
+pub ticks_low : (ls : List Line) → AreSlow 16777216 ls → (sum_by moved_by ls + LOCK_LIFE ≤ clock_end)
+ticks_low ls slow = omega (arith, slow)

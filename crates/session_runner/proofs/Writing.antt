@@ -1,20 +1,20 @@
 -- The lines of a report, cut where the writing stands.
 use Rattle.std.proofs.Common.{◌≡◌, ◌⊎◌, ℕ, zero, suc, ◌+◌, ◌<◌, ◌≤◌, List, [], ◌∷◌, ◌++◌, length, take, drop, get_or, sym, ap, ap₂, ◌∙◌, subst, arith, append-nil, append_assoc, inl, inr}
-use Rattle.std.specs.Prelude.{Option, None}
+use Rattle.std.specs.Prelude.{Option, None, Some}
 use Rattle.std.proofs.lemmas.Bool.{cases_lt}
 use Rattle.std.proofs.lemmas.List.{take_more, take-append-drop, length-take-le}
 use Rattle.json_lines.specs.Object.{line_of}
 use Rattle.source_sink.specs.Buffered.{Delivered, DeliveredPrefix}
 use Rattle.journal_entries.specs.declared.act.Entry.{Entry}
-use Rattle.journal_rules.specs.Documents.{name, text}
-use Rattle.session_runner.specs.declared.document.Document.{Document}
-use Rattle.session_runner.specs.Desk.{IsDocument}
+use Rattle.journal_rules.specs.Documents.{name, text, version}
+use Rattle.journal_rules.specs.Tracking.{cells}
+use Rattle.ranges_tracker.specs.Shown.{shown}
 use Rattle.report_text.specs.declared.document_end.DocEnd.{DocEnd}
 use Rattle.report_text.specs.Documents.{document_members}
 use Rattle.report_text.specs.Entries.{entry_members}
 use Rattle.ranges_tracker.specs.declared.change.Change.{Change}
 use Rattle.ranges_tracker.specs.declared.comment.Comment.{Comment}
-use Rattle.session_runner.specs.Report.{document_end, document_line, document_lines, end_of, entry_lines, text_or_none}
+use Rattle.session_runner.specs.Report.{document_end, document_line, document_lines, entry_lines, text_or_none}
 
 -- what is a part of a front is a part of the whole
 pub longer : (start now : Option (List ℕ)) (held text front back whole : List ℕ) → front ++ back ≡ whole → DeliveredPrefix start now held (text ++ front) → DeliveredPrefix start now held (text ++ whole)
@@ -62,11 +62,12 @@ pub documents_more : (j : List Entry) (k : ℕ) → document_lines (k + 1) j ≡
 documents_more j k = ap (λ n. document_lines n j) (let z : k + 1 ≡ suc k = omega arith in z)
 
 -- a document's line is that of the journal
-pub document_line_is : (d : ℕ) (document : Document) (j : List Entry) → IsDocument d document j → line_of (document_members (end_of d document)) ≡ document_line d j
-document_line_is d document j was =
+pub document_line_is : (d : ℕ) (j : List Entry) (n t : List ℕ) (r : List Change × List Comment) (v : ℕ) → n ≡ name d j → text d j ≡ Some t → r ≡ shown (cells d j) → v ≡ version d j
+    → line_of (document_members (record { b = 0; doc = d; kept = None; name = n; ranges = r; text = t; v = v })) ≡ document_line d j
+document_line_is d j n t r v name_is text_is ranges_are version_is =
     ap (λ (end : DocEnd). line_of (document_members end)) (
-    ap₂ (λ (n : List ℕ) (t : List ℕ). record { b = 0; doc = d; kept = None; name = n; ranges = document.ranges; text = t; v = document.window.version }) was.name_is (sym (ap text_or_none was.text_is))
-    ∙ ap₂ (λ (r : List Change × List Comment) (v : ℕ). record { b = 0; doc = d; kept = None; name = name d j; ranges = r; text = text_or_none (text d j); v = v }) (sym was.tracked.ranges_are) was.window_is.version_is
+    ap₂ (λ (n : List ℕ) (t : List ℕ). record { b = 0; doc = d; kept = None; name = n; ranges = r; text = t; v = v }) name_is (sym (ap text_or_none text_is))
+    ∙ ap₂ (λ (r : List Change × List Comment) (v : ℕ). record { b = 0; doc = d; kept = None; name = name d j; ranges = r; text = text_or_none (text d j); v = v }) ranges_are version_is
     )
 
 -- one line more, put beside those before it

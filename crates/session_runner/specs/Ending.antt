@@ -3,37 +3,43 @@ use Rattle.std.specs.Prelude.{◌≡◌, ◌⊎◌, ℕ, ◌+◌, ◌<◌, ◌�
 use Rattle.std.specs.Fmt.{decimal}
 use Rattle.std.specs.declared.alloc.Global.{Global}
 use Rattle.std.specs.Io.KnownBytes.{Consumes, Appends, Keeps, IsAtEnd}
-use Rattle.source_sink.specs.Causes.{Rose}
 use Rattle.source_sink.specs.declared.read.TheConstants.{INPUT_LIMIT}
 use Rattle.journal_entries.specs.declared.act.Entry.{Entry}
-use Rattle.session_runner.specs.Legal.{IsLegal}
+use Rattle.journal_rules.specs.Legal.{IsLegal}
 use Rattle.session_lines.specs.declared.line.Line.{Line}
 use Rattle.session_lines.specs.declared.script.Script.{Script}
 use Rattle.session_lines.specs.declared.fault.ScriptFault.{ScriptFault}
 use Rattle.session_lines.specs.declared.fault.ScriptFault.TheVariants as read
 use Rattle.session_lines.specs.Script.{script_of}
+use Rattle.run_rules.specs.Follows.{FollowsUnflushed}
 use Rattle.session_runner.specs.declared.ending.Ending.{Ending}
 use Rattle.session_runner.specs.declared.ending.Ending.TheVariants as ending
 use Rattle.session_runner.specs.declared.ending.LineFault.{LineFault}
 use Rattle.session_runner.specs.declared.ending.LineFault.TheVariants.{Json, Form, Unknown, Unbuilt}
-use Rattle.session_runner.specs.Desk.{IsKept}
+use Rattle.session_runner.specs.Fitting.{is_built}
+use Rattle.session_runner.specs.Passing.{MayFail, Passed}
 use Rattle.session_runner.specs.Report.{report_of}
-use Rattle.session_runner.specs.Script.{Follows, is_built}
 
 -- the words are the one word `run`
 abbrev pub AreRun : List (String Global) → Type 0
 AreRun words = map string_bytes words ≡ codes "run" ∷ []
 
 -- the input was read to its end, and is within the limit
-pub record WasWhole (before after : Option (List ℕ)) (bytes : List ℕ) : Type 0 where
-  pub consumed : Consumes before after bytes
-  pub at_end : IsAtEnd after
+pub record WasWhole (input : Passed) (bytes : List ℕ) : Type 0 where
+  pub consumed : Consumes input.before input.after bytes
+  pub at_end : IsAtEnd input.after
   pub short : length bytes ≤ INPUT_LIMIT
 
 -- more than the limit was taken
-pub record WasLong (before after : Option (List ℕ)) (bytes : List ℕ) : Type 0 where
-  pub consumed : Consumes before after bytes
+pub record WasLong (input : Passed) (bytes : List ℕ) : Type 0 where
+  pub consumed : Consumes input.before input.after bytes
   pub long : INPUT_LIMIT < length bytes
+
+-- reading failed behind these bytes, which are no more than the limit
+pub record WasBroken (input : Passed) (bytes : List ℕ) : Type 0 where
+  pub consumed : Consumes input.before input.after bytes
+  pub short : length bytes ≤ INPUT_LIMIT
+  pub failed : MayFail input
 
 -- the first line of a command that isn't built, from 1
 abbrev pub first_unbuilt : List Line → Option ℕ
@@ -57,7 +63,7 @@ pub record IsRun (bytes : List ℕ) (journal : List Entry) : Type 0 where
   pub read : script_of bytes ≡ Ok script
   pub no_fault : line_fault bytes ≡ None
   pub legal : IsLegal journal
-  pub follows : Follows script.lines journal
+  pub follows : FollowsUnflushed script.lines script.sessions journal
 
 -- a fault that names a line, as it is written
 abbrev pub line_text : ℕ → List ℕ → List ℕ
@@ -76,16 +82,16 @@ EndsAs bytes ending.Read = ⊥
 EndsAs bytes ending.Long = ⊥
 EndsAs bytes ending.Memory = ⊤
 EndsAs bytes (ending.Script fault) = line_fault bytes ≡ Some fault
-EndsAs bytes (ending.Done desk) = IsRun bytes desk.journal.items × IsKept desk
+EndsAs bytes (ending.Done book) = IsRun bytes book.journal
 
--- why a run ends so
-abbrev pub Explains : List (String Global) → Option (List ℕ) → Option (List ℕ) → ℕ → ℕ → Ending → Type 0
-Explains words before after count now ending.Words = (¬ AreRun words) × Keeps before after
-Explains words before after count now ending.Read = AreRun words × Rose count now
-Explains words before after count now ending.Long = AreRun words × ((bytes : List ℕ) × WasLong before after bytes)
-Explains words before after count now ending.Memory = ⊤
-Explains words before after count now (ending.Script fault) = AreRun words × ((bytes : List ℕ) × WasWhole before after bytes × (line_fault bytes ≡ Some fault))
-Explains words before after count now (ending.Done desk) = AreRun words × ((bytes : List ℕ) × WasWhole before after bytes × IsRun bytes desk.journal.items) × IsKept desk
+-- why a run ends so. Where memory was wanting no more than the limit was taken
+abbrev pub Explains : List (String Global) → Passed → Ending → Type 0
+Explains words input ending.Words = (¬ AreRun words) × Keeps input.before input.after
+Explains words input ending.Read = AreRun words × ((bytes : List ℕ) × WasBroken input bytes)
+Explains words input ending.Long = AreRun words × ((bytes : List ℕ) × WasLong input bytes)
+Explains words input ending.Memory = AreRun words × ((bytes : List ℕ) × Consumes input.before input.after bytes × (length bytes ≤ INPUT_LIMIT))
+Explains words input (ending.Script fault) = AreRun words × ((bytes : List ℕ) × WasWhole input bytes × (line_fault bytes ≡ Some fault))
+Explains words input (ending.Done book) = AreRun words × ((bytes : List ℕ) × WasWhole input bytes × IsRun bytes book.journal)
 
 abbrev pub status_of : Ending → ℕ
 status_of ending.Words = 2
@@ -93,7 +99,7 @@ status_of ending.Read = 5
 status_of ending.Long = 8
 status_of ending.Memory = 4
 status_of (ending.Script fault) = 3
-status_of (ending.Done desk) = 0
+status_of (ending.Done book) = 0
 
 abbrev pub text_of : Ending → List ℕ
 text_of ending.Words = codes "fault: words\n"
@@ -101,24 +107,35 @@ text_of ending.Read = codes "fault: read\n"
 text_of ending.Long = codes "fault: input longer than 16777216\n"
 text_of ending.Memory = []
 text_of (ending.Script fault) = fault_text fault
-text_of (ending.Done desk) = report_of desk.journal.items
+text_of (ending.Done book) = report_of book.journal
 
 -- a part of a text, from its front on, was written
-abbrev pub IsPart : Option (List ℕ) → Option (List ℕ) → List ℕ → Type 0
-IsPart before after text = (k : ℕ) × (k ≤ length text) × Appends before after (take k text)
+abbrev pub IsPart : Passed → List ℕ → Type 0
+IsPart out text = (k : ℕ) × (k ≤ length text) × Appends out.before out.after (take k text)
+
+-- what may be written where memory is wanting: a part of the report, and else nothing
+abbrev pub IsPartOfReport : Ending → Passed → Type 0
+IsPartOfReport (ending.Done book) out = IsPart out (report_of book.journal)
+IsPartOfReport _ out = Appends out.before out.after []
+
+-- endings for which memory may be wanting as they are told
+abbrev pub TakesMemory : Ending → Type 0
+TakesMemory ending.Words = ⊥
+TakesMemory ending.Read = ⊥
+TakesMemory ending.Long = ⊥
+TakesMemory _ = ⊤
+
+-- endings that have something to write
+abbrev pub IsWriting : Ending → Type 0
+IsWriting ending.Memory = ⊥
+IsWriting _ = ⊤
 
 -- the text was written and the status is its own; or the sink failed and the status is 6; or memory was wanting and it is 4
-abbrev pub IsTold : Option (List ℕ) → Option (List ℕ) → ℕ → ℕ → Ending → ℕ → Type 0
-IsTold before after count now end status =
-    ((status ≡ status_of end) × Appends before after (text_of end))
-    ⊎ ((status ≡ 6) × Rose count now × IsPart before after (text_of end))
-    ⊎ ((status ≡ 4) × IsPart before after (text_of end))
+abbrev pub IsTold : Passed → Ending → ℕ → Type 0
+IsTold out end status =
+    ((status ≡ status_of end) × Appends out.before out.after (text_of end))
+    ⊎ ((status ≡ 6) × MayFail out × IsWriting end × IsPart out (text_of end))
+    ⊎ ((status ≡ 4) × TakesMemory end × IsPartOfReport end out)
 
-abbrev pub IsTextTold : Option (List ℕ) → Option (List ℕ) → ℕ → ℕ → ℕ → List ℕ → ℕ → Type 0
-IsTextTold before after count now own text status =
-    ((status ≡ own) × Appends before after text) ⊎ ((status ≡ 6) × Rose count now × IsPart before after text)
-
--- the desk of an ending is kept
-abbrev pub KeepsDesk : Ending → Type 0
-KeepsDesk (ending.Done desk) = IsKept desk
-KeepsDesk _ = ⊤
+abbrev pub IsTextTold : Passed → ℕ → List ℕ → ℕ → Type 0
+IsTextTold out own text status = ((status ≡ own) × Appends out.before out.after text) ⊎ ((status ≡ 6) × MayFail out × IsPart out text)

@@ -1,10 +1,9 @@
-pub mod Passing
-pub mod Legal
-pub mod Deciding
-pub mod Looking
-pub mod Desk
-pub mod Script
+pub mod Fitting
+pub mod Apart
+pub mod Draining
+pub mod Holding
 pub mod Report
 pub mod Writing
+pub mod Passing
 pub mod Ending
 pub mod Run

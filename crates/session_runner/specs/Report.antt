@@ -8,7 +8,6 @@ use Rattle.report_text.specs.Entries.{entry_members}
 use Rattle.journal_entries.specs.declared.act.Entry.{Entry}
 use Rattle.journal_rules.specs.Documents.{makings, name, text, version}
 use Rattle.journal_rules.specs.Tracking.{cells}
-use Rattle.session_runner.specs.declared.document.Document.{Document}
 
 -- the text of a document, which a legal journal always gives
 abbrev pub text_or_none : Option (List ℕ) → List ℕ
@@ -22,11 +21,6 @@ document_end doc journal =
 
 abbrev pub document_line : ℕ → List Entry → List ℕ
 document_line doc journal = line_of (document_members (document_end doc journal))
-
--- the same of a document as it stands on the desk
-abbrev pub end_of : ℕ → Document → DocEnd
-end_of doc document =
-    record { b = 0; doc = doc; kept = None; name = document.name; ranges = document.ranges; text = document.text; v = document.window.version }
 
 -- the entries' lines, the first of them under this number
 abbrev pub entry_lines : ℕ → List Entry → List ℕ

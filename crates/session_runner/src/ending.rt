@@ -1,15 +1,19 @@
 //! How a run ends: by faulty words, a failed read, too long an input, a faulty line, want of memory, or a journal to report.
 
-ghost use Rattle.std.specs.Prelude.{◌≡◌, ◌≤◌, ◌<◌, ◌↔◌, ◌++◌, [], codes, length, position, not, IsTrue, IfOk, IfSome, OnOk, Some, string_bytes};
+ghost use Rattle.std.specs.Prelude.{◌≡◌, ◌≤◌, ◌<◌, ◌↔◌, ◌*◌, ◌+◌, ◌++◌, [], codes, length, position, not, sum_by, IsTrue, IfOk, IfSome, OnOk, Some, string_bytes};
 ghost use Rattle.std.specs.Fmt.{decimal};
 ghost use Rattle.session_lines.specs.Script.{script_of};
-ghost use Rattle.session_runner.specs.Desk.{IsKept};
-ghost use Rattle.session_runner.specs.Ending.{AreRun, EndsAs, Explains, IsTextTold, IsTold, KeepsDesk, fault_in, fault_text, first_unbuilt as first_unbuilt_lem, line_text};
-ghost use Rattle.session_runner.specs.Script.{AreBuilt, AreFit, Follows, is_built as is_built_lem};
+ghost use Rattle.session_lines.specs.Standing.{AreBySessions, AreSlow};
+ghost use Rattle.run_rules.specs.Follows.{FollowsUnflushed};
+ghost use Rattle.session_runner.specs.Ending.{AreRun, EndsAs, Explains, IsTextTold, IsTold, fault_in, fault_text, first_unbuilt as first_unbuilt_lem, line_text};
+ghost use Rattle.session_runner.specs.Fitting.{AreBuilt, AreFit, is_built as is_built_lem};
+ghost use Rattle.session_runner.specs.Passing.{passed};
 
-use crate::desk::Desk;
-use crate::lines::do_lines;
+use crate::closing::end_run;
+use crate::drain::legal;
+use crate::driver::do_lines;
 use crate::report::{WriteFault, write_report};
+use book::Book;
 use session_lines::{Line, ScriptFault, read_script};
 use source_sink::{ReadFault, Sink, Source, read_all, write_all};
 use std::alloc::{AllocError, Global};
@@ -35,12 +39,12 @@ pub(crate) enum Ending {
     Long,
     Memory,
     Script(LineFault),
-    Done(Desk),
+    Done(Book),
 }
 
 /// Reads the input, where the words are in form, and does its lines.
 pub(crate) fn prepare<S: Source>(alloc: Global, words: &[String], input: &mut S) -> Ending
-    ensures { Explains words.now (S.left input.old) (S.left input.new) (S.count input.old) (S.count input.new) result }
+    ensures { Explains words.now (passed S.left S.count input.old input.new) result }
 {
     if !are_run(words) {
         return Ending::Words;
@@ -77,8 +81,11 @@ fn ending_of(alloc: Global, bytes: &[u8]) -> Ending
     if let Some(n) = first_unbuilt(script.lines.as_slice()) {
         return Ending::Script(LineFault::Unbuilt(n));
     }
-    match run_lines(alloc, script.lines.into_vec()) {
-        Ok(desk) => Ending::Done(desk),
+    match run_lines(alloc, script.lines.into_vec(), script.sessions) {
+        Ok(book) => {
+            legal(&book);
+            Ending::Done(book)
+        }
         Err(_) => Ending::Memory,
     }
 }
@@ -103,25 +110,33 @@ fn unbuilt_place(lines: &[Line]) -> Option<usize>
 fn is_built(line: &Line) -> bool
     ensures { result ≡ is_built_lem line.now }
 {
-    matches!(line, Line::Doc { .. } | Line::Raw { .. })
+    matches!(
+        line,
+        Line::Doc { .. }
+            | Line::Tick { .. }
+            | Line::Raw { .. }
+            | Line::Drain { .. }
+            | Line::Hold { .. }
+            | Line::Finish { .. }
+    )
 }
 
-fn run_lines(alloc: Global, lines: Vec<Line>) -> Result<Desk, AllocError>
+fn run_lines(alloc: Global, lines: Vec<Line>, sessions: u32) -> Result<Book, AllocError>
     requires fit { AreFit [] lines.items }
     requires built { AreBuilt lines.items }
+    requires numbered { AreBySessions sessions lines.items }
+    requires slow { AreSlow 16777216 lines.items }
     requires few { length lines.items ≤ 16777216 }
-    ensures kept { IfOk result (λ desk. IsKept desk) }
-    ensures follows { IfOk result (λ desk. Follows lines.items desk.journal.items) }
+    ensures { IfOk result (λ book. FollowsUnflushed lines.items sessions book.journal) }
 {
-    let mut desk = do_lines(alloc, lines)?;
-    desk.settle_all(alloc)?;
-    Ok(desk)
+    let mut book = do_lines(alloc, lines, sessions)?;
+    end_run(alloc, &mut book)?;
+    Ok(book)
 }
 
 /// Writes what the ending says, and gives the status.
 pub(crate) fn tell<W: Sink>(alloc: Global, out: &mut W, ending: &Ending) -> u8
-    requires { KeepsDesk ending.now }
-    ensures { IsTold (W.written out.old) (W.written out.new) (W.count out.old) (W.count out.new) ending.now result }
+    ensures { IsTold (passed W.written W.count out.old out.new) ending.now result }
 {
     match ending {
         Ending::Words => tell_text(out, 2, b"fault: words\n"),
@@ -132,7 +147,7 @@ pub(crate) fn tell<W: Sink>(alloc: Global, out: &mut W, ending: &Ending) -> u8
             Ok(text) => tell_text(out, 3, text.as_bytes()),
             Err(_) => 4,
         },
-        Ending::Done(desk) => match write_report(alloc, desk, out) {
+        Ending::Done(book) => match write_report(alloc, book, out) {
             Ok(()) => 0,
             Err(WriteFault::Failed) => 6,
             Err(WriteFault::Memory) => 4,
@@ -142,7 +157,7 @@ pub(crate) fn tell<W: Sink>(alloc: Global, out: &mut W, ending: &Ending) -> u8
 
 // Writes a text and gives its status, or 6 where the sink failed.
 fn tell_text<W: Sink>(out: &mut W, status: u8, text: &[u8]) -> u8
-    ensures { IsTextTold (W.written out.old) (W.written out.new) (W.count out.old) (W.count out.new) status text.now result }
+    ensures { IsTextTold (passed W.written W.count out.old out.new) status text.now result }
 {
     match write_all(out, text) {
         Ok(()) => status,

@@ -1,13 +1,12 @@
 //! The program: from the words and the input to the report and the status.
 #![tactic(auto)]
 
-mod desk;
-mod document;
+mod closing;
+mod drain;
+mod driver;
 mod ending;
-mod lines;
 mod report;
 mod run;
-mod settle;
 
 pub use run::run_alone;
 

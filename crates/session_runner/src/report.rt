@@ -1,18 +1,14 @@
 //! The report of a journal: a line for each entry, and then a line for each document.
 
 ghost use Rattle.std.specs.Prelude.{◌≡◌, ◌++◌, ℕ, List, Option, length, IfOk};
-ghost use Rattle.json_lines.specs.Object.{line_of};
 ghost use Rattle.source_sink.specs.Buffered.{Delivered};
 ghost use Rattle.source_sink.specs.Causes.{HasCauseOf};
 ghost use Rattle.source_sink.specs.Outside.{Wrote};
-ghost use Rattle.session_runner.specs.Desk.{AreDocuments, IsKept};
-ghost use Rattle.report_text.specs.Documents.{document_members};
-ghost use Rattle.session_runner.specs.Report.{document_lines, end_of, entry_lines, report_of};
+ghost use Rattle.journal_rules.specs.Documents.{IsMade, makings};
+ghost use Rattle.session_runner.specs.Report.{document_line as document_line_lem, document_lines, entry_lines, report_of};
 ghost use Rattle.session_runner.specs.Writing.{Pushed};
-ghost use Rattle.journal_entries.specs.declared.act.Entry.{Entry};
 
-use crate::desk::Desk;
-use crate::document::Document;
+use book::Book;
 use journal_entries::Entry;
 use ot_text::doc_units;
 use report_text::{DocEnd, doc_line, entry_line};
@@ -49,32 +45,30 @@ impl From<AllocError> for WriteFault {
 /// Writes the report line by line. Its memory doesn't grow with the report.
 pub(crate) fn write_report<W: Sink>(
     alloc: Global,
-    desk: &Desk,
+    book: &Book,
     out: &mut W,
 ) -> Result<(), WriteFault>
-    requires { IsKept desk.now }
-    ensures wrote { Wrote (W.written out.old) (W.written out.new) (report_of desk.now.journal.items) result }
+    ensures wrote { Wrote (W.written out.old) (W.written out.new) (report_of book.now.journal) result }
     ensures cause { HasCauseOf (W.count out.old) (W.count out.new) result WriteFault.Failed }
 {
     let mut buffer = WriteBuffer::new(alloc)?;
-    write_lines(alloc, desk, &mut buffer, out)?;
+    write_lines(alloc, book, &mut buffer, out)?;
     buffer.flush(out)?;
     Ok(())
 }
 
 fn write_lines<W: Sink>(
     alloc: Global,
-    desk: &Desk,
+    book: &Book,
     buffer: &mut WriteBuffer,
     out: &mut W,
 ) -> Result<(), WriteFault>
-    requires { IsKept desk.now }
     ensures pushed { (start : Option (List ℕ)) (text : List ℕ) → Delivered start (W.written out.old) buffer.old text
-        → Pushed start (W.written out.new) buffer.new (text ++ report_of desk.now.journal.items) result }
+        → Pushed start (W.written out.new) buffer.new (text ++ report_of book.now.journal) result }
     ensures cause { HasCauseOf (W.count out.old) (W.count out.new) result WriteFault.Failed }
 {
-    write_entries(alloc, &desk.journal, buffer, out)?;
-    write_documents(alloc, desk, buffer, out)
+    write_entries(alloc, book.journal().as_slice(), buffer, out)?;
+    write_documents(alloc, book, buffer, out)
 }
 
 fn write_entries<W: Sink>(
@@ -95,17 +89,17 @@ fn write_entries<W: Sink>(
 
 fn write_documents<W: Sink>(
     alloc: Global,
-    desk: &Desk,
+    book: &Book,
     buffer: &mut WriteBuffer,
     out: &mut W,
 ) -> Result<(), WriteFault>
-    requires { IsKept desk.now }
     ensures pushed { (start : Option (List ℕ)) (text : List ℕ) → Delivered start (W.written out.old) buffer.old text
-        → Pushed start (W.written out.new) buffer.new (text ++ document_lines (length desk.now.documents.items) desk.now.journal.items) result }
+        → Pushed start (W.written out.new) buffer.new (text ++ document_lines (length (makings book.now.journal)) book.now.journal) result }
     ensures cause { HasCauseOf (W.count out.old) (W.count out.new) result WriteFault.Failed }
 {
-    for (doc, document) in desk.documents.iter().enumerate() {
-        write_line(document_line(alloc, doc as u32, document), buffer, out)?;
+    let docs = book.docs();
+    for doc in 0..docs {
+        write_line(document_line(alloc, book, doc), buffer, out)?;
     }
     Ok(())
 }
@@ -129,8 +123,9 @@ fn write_line<W: Sink>(
 }
 
 // The line of a document at the end, under its number.
-fn document_line(alloc: Global, doc: u32, document: &Document) -> Result<Vec<u8>, AllocError>
-    ensures { IfOk result (λ bytes. bytes.items ≡ line_of (document_members (end_of doc document.now))) }
+fn document_line(alloc: Global, book: &Book, doc: u32) -> Result<Vec<u8>, AllocError>
+    requires { IsMade doc book.now.journal }
+    ensures { IfOk result (λ bytes. bytes.items ≡ document_line_lem doc book.now.journal) }
 {
     doc_line(
         alloc,
@@ -138,10 +133,10 @@ fn document_line(alloc: Global, doc: u32, document: &Document) -> Result<Vec<u8>
             b: 0,
             doc,
             kept: None,
-            name: document.name.copy(alloc)?,
-            ranges: document.ranges.copy(alloc)?,
-            text: doc_units(alloc, &document.text)?,
-            v: document.window.version(),
+            name: book.name(doc).copy(alloc)?,
+            ranges: book.ranges(doc).copy(alloc)?,
+            text: doc_units(alloc, book.text(doc))?,
+            v: book.version(doc),
         },
     )
 }

@@ -1,10 +1,10 @@
 //! `run_alone`, all that the program does.
 
-ghost use Rattle.std.specs.Prelude.{◌≡◌, ◌⊎◌, codes};
-ghost use Rattle.std.specs.Io.KnownBytes.{Appends, Keeps};
-ghost use Rattle.source_sink.specs.Causes.{Rose};
+ghost use Rattle.std.specs.Prelude.{◌≡◌, ◌⊎◌};
+ghost use Rattle.std.specs.Io.KnownBytes.{Keeps};
 ghost use Rattle.session_runner.specs.Ending.{AreRun};
-ghost use Rattle.session_runner.specs.Run.{Completes, IsCutShort, IsDone, IsNoScript, IsStatus, IsTooLong};
+ghost use Rattle.session_runner.specs.Passing.{MayFail, passed};
+ghost use Rattle.session_runner.specs.Run.{Answers, Completes, IsCutShort, IsDone, IsNoScript, IsOtherWords, IsStatus, IsTooLong, IsUnread, IsWanting};
 
 use crate::ending::{prepare, tell};
 use source_sink::{Sink, Source};
@@ -24,25 +24,22 @@ pub fn run_alone<S: Source, W: Sink>(
     ensures statuses { IsStatus result }
 
     // The whole input was read, and the report of a legal journal that follows it was written.
-    ensures done { result ≡ 0 → IsDone words.now (S.left input.old) (S.left input.new) (W.written out.old) (W.written out.new) }
+    ensures done { result ≡ 0 → IsDone words.now (passed S.left S.count input.old input.new) (passed W.written W.count out.old out.new) }
+    ensures words { result ≡ 2 → IsOtherWords words.now (passed S.left S.count input.old input.new) (passed W.written W.count out.old out.new) }
+    ensures script { result ≡ 3 → IsNoScript words.now (passed S.left S.count input.old input.new) (passed W.written W.count out.old out.new) }
+    ensures memory { result ≡ 4 → IsWanting words.now (passed S.left S.count input.old input.new) (passed W.written W.count out.old out.new) }
+    ensures read { result ≡ 5 → IsUnread words.now (passed S.left S.count input.old input.new) (passed W.written W.count out.old out.new) }
+    ensures written { result ≡ 6 → IsCutShort words.now (passed S.left S.count input.old input.new) (passed W.written W.count out.old out.new) }
+    ensures long { result ≡ 8 → IsTooLong words.now (passed S.left S.count input.old input.new) (passed W.written W.count out.old out.new) }
 
-    // Nothing was read, and the words are outside the form.
-    ensures words { result ≡ 2 → ¬ AreRun words.now × Keeps (S.left input.old) (S.left input.new) × Appends (W.written out.old) (W.written out.new) (codes "fault: words\n") }
-    ensures other_words { ¬ AreRun words.now → (result ≡ 2) ⊎ (result ≡ 4) ⊎ (result ≡ 6) }
-    ensures script { result ≡ 3 → IsNoScript words.now (S.left input.old) (S.left input.new) (W.written out.old) (W.written out.new) }
-    ensures read { result ≡ 5 → AreRun words.now × Rose (S.count input.old) (S.count input.new) × Appends (W.written out.old) (W.written out.new) (codes "fault: read\n") }
-    ensures long { result ≡ 8 → IsTooLong words.now (S.left input.old) (S.left input.new) (W.written out.old) (W.written out.new) }
+    // Behind other words nothing is read.
+    ensures other_words { ¬ AreRun words.now → ((result ≡ 2) ⊎ ((result ≡ 6) × MayFail (passed W.written W.count out.old out.new))) × Keeps (S.left input.old) (S.left input.new) }
 
-    // The sink failed behind a prefix of what was to be written.
-    ensures written { result ≡ 6 → Rose (W.count out.old) (W.count out.new)
-        × IsCutShort words.now (S.left input.old) (S.left input.new) (S.count input.old) (S.count input.new) (W.written out.old) (W.written out.new) }
-
-    // Memory was wanting behind a prefix of it.
-    ensures memory { result ≡ 4
-        → IsCutShort words.now (S.left input.old) (S.left input.new) (S.count input.old) (S.count input.new) (W.written out.old) (W.written out.new) }
+    // Over a source that tells, the status is that of what was taken.
+    ensures answers { Answers words.now (passed S.left S.count input.old input.new) (passed W.written W.count out.old out.new) result }
 
     // Where nothing fails, only want of memory stands between an input and its end.
-    ensures complete { Completes words.now (S.left input.old) (S.count input.old) (S.count input.new) (W.count out.old) (W.count out.new) result }
+    ensures complete { Completes words.now (passed S.left S.count input.old input.new) (passed W.written W.count out.old out.new) result }
 {
     let ending = prepare(alloc, words, input);
     tell(alloc, out, &ending)

@@ -1,8 +1,9 @@
-use Rattle.std.proofs.Common.{◌∙◌, List, [], length, sym, ap, subst, arith}
+use Rattle.std.proofs.Common.{◌∙◌, ◌≤◌, ◌*◌, ◌+◌, List, [], length, sym, ap, subst, arith}
+use Rattle.session_lines.specs.Standing.{AreBySessions, AreSlow}
 use Rattle.session_lines.specs.declared.line.Line.{Line}
-use Rattle.session_runner.specs.Script.{AreBuilt, AreFit}
+use Rattle.session_runner.specs.Fitting.{AreBuilt, AreFit}
 use Rattle.session_runner.proofs.Lists.{none_of}
-use Rattle.session_runner.proofs.Fitting.{fits, none_unbuilt}
+use Rattle.session_runner.proofs.Fitting.{fits, none_unbuilt, slower}
 use Rattle.session_runner.proofs.ending.ending_of.Goals as goal
 
 pub run_lines-requires-clause-fit : goal.run_lines-requires-clause-fit
@@ -16,3 +17,9 @@ run_lines-requires-clause-built c =
 
 pub run_lines-requires-clause-few : goal.run_lines-requires-clause-few
 run_lines-requires-clause-few c = let short = c.in-Ok.ensures.short in let limit = c.requires in let same = ap length c.into_vec.ensures in omega (arith, short, limit, same)
+
+pub run_lines-requires-clause-numbered : goal.run_lines-requires-clause-numbered
+run_lines-requires-clause-numbered c = subst (λ (ls : List Line). AreBySessions c.in-Ok.script.sessions ls) (sym c.into_vec.ensures) c.in-Ok.ensures.numbered
+
+pub run_lines-requires-clause-slow : goal.run_lines-requires-clause-slow
+run_lines-requires-clause-slow c = subst (λ (ls : List Line). AreSlow 16777216 ls) (sym c.into_vec.ensures) (slower (length c.args.bytes.now) 16777216 c.in-Ok.script.lines c.requires c.in-Ok.ensures.slow)

@@ -1,11 +1,17 @@
-use Rattle.session_runner.proofs.Completing.{completes, cut_short, memory_wanting}
+use Rattle.session_runner.proofs.Completing.{answers, completes, cut_short, memory_wanting, other_words}
 use Rattle.session_runner.proofs.run.run_alone.Goals as goal
 
 pub returns-clause-complete : goal.returns-clause-complete
-returns-clause-complete g c = completes _ _ _ _ _ _ _ _ _ c.prepare-ending.result c.tell.result c.prepare-ending.ensures c.tell.ensures
+returns-clause-complete g c = completes _ _ _ _ c.prepare-ending.result c.prepare-ending.ensures c.tell.ensures
+
+pub returns-clause-answers : goal.returns-clause-answers
+returns-clause-answers g c = answers _ _ _ _ c.prepare-ending.result c.prepare-ending.ensures c.tell.ensures
 
 pub returns-clause-written : goal.returns-clause-written
-returns-clause-written g c = cut_short _ _ _ _ _ _ _ _ _ c.prepare-ending.result c.tell.result c.prepare-ending.ensures c.tell.ensures
+returns-clause-written g c = cut_short _ _ _ _ c.prepare-ending.result c.prepare-ending.ensures c.tell.ensures
 
 pub returns-clause-memory : goal.returns-clause-memory
-returns-clause-memory g c = memory_wanting _ _ _ _ _ _ _ _ _ c.prepare-ending.result c.tell.result c.prepare-ending.ensures c.tell.ensures
+returns-clause-memory g c = memory_wanting _ _ _ _ c.prepare-ending.result c.prepare-ending.ensures c.tell.ensures
+
+pub returns-clause-other_words : goal.returns-clause-other_words
+returns-clause-other_words g c = other_words _ _ _ _ c.prepare-ending.result c.prepare-ending.ensures c.tell.ensures

@@ -1,0 +1,92 @@
+-- A preparation is finished: committed and let go, or given up.
+use Rattle.std.proofs.Common.{◌≡◌, ◌≢◌, ℕ, ◌<◌, List, [], ◌∷◌, ◌++◌, length, Bool, true, false, true≢false, refl, sym, ap, ◌∙◌, subst, eq-eqb, eqb-true, append_assoc}
+use Rattle.std.specs.Prelude.{Option, Some, None, ◌==◌, slice_get, slice_set, option_and_then}
+use Rattle.expiring_lock.specs.declared.refusal.Stale.{Stale}
+use Rattle.journal_entries.specs.declared.update.Outcome.{Outcome}
+use Rattle.journal_entries.specs.declared.act.Act.{Act}
+use Rattle.journal_entries.specs.declared.act.Act.TheVariants.{Committed, Released, Declined}
+use Rattle.journal_entries.specs.declared.act.Entry.{Entry}
+use Rattle.journal_entries.specs.declared.why.Why.TheVariants.{Nothing, Stale as IsStale}
+use Rattle.journal_rules.specs.Deciding.{decided}
+use Rattle.journal_rules.specs.Locks.{Holds}
+use Rattle.turn_rules.specs.Locking.{staleness}
+use Rattle.turn_rules.specs.Turns.{Alone, Turn, entry_by}
+use Rattle.run_rules.specs.Keeping.{Preparation}
+use Rattle.run_rules.specs.Lines.{Finishes, FinishesUnless}
+use Rattle.book.specs.Shown.{Shown, adds}
+use Rattle.book.specs.declared.faults.Prepared.{Prepared}
+use Rattle.session_runner.specs.declared.driver.Driver.{Driver}
+use Rattle.session_runner.specs.Holding.{AreHeld, IsDriver, Stands, kept, kept_in, preparation_of}
+use Rattle.session_runner.proofs.Apart.{not_this}
+use Rattle.session_runner.proofs.Holding.{given_up, held_own, of_another, one_more, still_holds, still_stale}
+use Rattle.session_runner.proofs.Lines.{declined}
+
+module _ (line : Option ℕ) (session : ℕ) (driver : Driver) (p : Prepared) (is : IsDriver driver) (lt : session < length driver.holds.items) (at : slice_get driver.holds.items session ≡ Some (Some p)) where
+  abbrev j : List Entry
+  j = driver.book.journal
+
+  abbrev by : Act → Entry
+  by = entry_by 0 line
+
+  pub stands : Stands j p
+  stands = is.held.stands session p at
+
+  pub keeps : kept_in driver.holds.items session ≡ Some (preparation_of p)
+  keeps = ap (option_and_then kept) at
+
+  -- ---- committed
+  module _ (mid : Shown) (none : staleness p.look.doc p.look.token j ≡ None) (commits : mid ≡ adds driver.book 0 line (Committed p.look.doc p.look.token p.look.ticket (decided j p.look.doc p.look.update) ∷ [])) where
+    abbrev outcome : Outcome
+    outcome = decided j p.look.doc p.look.update
+
+    abbrev committed : Act
+    committed = Committed p.look.doc p.look.token p.look.ticket outcome
+
+    mid_is : mid.journal ≡ j ++ by committed ∷ []
+    mid_is = ap (λ (b : Shown). b.journal) commits
+
+    pub may_release : Holds 0 p.look.doc p.look.token mid.journal
+    may_release = still_holds 0 p.look.doc p.look.token p.look.ticket outcome line p.look.doc p.look.token j mid.journal mid_is 0 (held_own p.look.doc p.look.token j stands.last stands.last_is stands.own none)
+
+    pub not_stale : (s : Stale) → staleness p.look.doc p.look.token mid.journal ≡ Some s → ⊥
+    not_stale s e =
+        let clash : None ≡ Some s = sym none ∙ sym (still_stale 0 p.look.doc p.look.token p.look.ticket outcome line p.look.doc p.look.token j mid.journal mid_is) ∙ e in cc
+
+    module _ (new : Shown) (releases : new ≡ adds mid 0 line (Released p.look.doc p.look.token ∷ [])) where
+      abbrev released : Act
+      released = Released p.look.doc p.look.token
+
+      new_is : new.journal ≡ (j ++ by committed ∷ []) ++ by released ∷ []
+      new_is = ap (λ (b : Shown). b.journal) releases ∙ ap (λ (l : List Entry). l ++ by released ∷ []) mid_is
+
+      pub finishes : Turn Alone (Finishes by session (kept_in driver.holds.items session)) j new.journal
+      finishes = (
+        j,
+        by committed ∷ by released ∷ [],
+        refl,
+        subst (λ (o : Option Preparation). Finishes by session o j (by committed ∷ by released ∷ [])) (sym keeps)
+            (subst (λ (s : Option Stale). FinishesUnless by session (preparation_of p) s j (by committed ∷ by released ∷ [])) (sym none)
+            (p.look.ticket, outcome, record { update = p.look.update; named = stands.named; cached_is = stands.cached_is; outcome_is = refl }, refl)),
+        new_is ∙ append_assoc j (by committed ∷ []) (by released ∷ []),
+      )
+
+      pub finished : (holds : List (Option Prepared)) → holds ≡ slice_set driver.holds.items session None → AreHeld holds new.journal
+      finished holds given = subst (λ (hs : List (Option Prepared)). AreHeld hs new.journal) (sym given) (record { stands = each; apart = (given_up driver.holds.items j session lt is.held).apart })
+        where
+          each : (s : ℕ) (q : Prepared) → slice_get (slice_set driver.holds.items session None) s ≡ Some (Some q) → Stands new.journal q
+          each s q there =
+              let o = of_another driver.holds.items session s q lt there in
+              let apart = is.held.apart session s p q o.0 at o.1 in
+              subst (λ (l : List Entry). Stands l q) (sym new_is)
+              (one_more (j ++ by committed ∷ []) (by released) q refl refl refl (one_more j (by committed) q refl refl (not_this p.look.token q.look.token apart) (is.held.stands s q o.1)))
+
+  -- ---- or the lock is another's
+  pub stale_finish : (stale : Stale) (last : List Entry) → staleness p.look.doc p.look.token j ≡ Some stale → last ≡ j ++ by (Declined session (IsStale stale)) ∷ [] → Turn Alone (Finishes by session (kept_in driver.holds.items session)) j last
+  stale_finish stale last e last_is = (
+    j,
+    by (Declined session (IsStale stale)) ∷ [],
+    refl,
+    subst (λ (o : Option Preparation). Finishes by session o j (by (Declined session (IsStale stale)) ∷ [])) (sym keeps)
+        (subst (λ (s : Option Stale). FinishesUnless by session (preparation_of p) s j (by (Declined session (IsStale stale)) ∷ [])) (sym e) refl),
+    last_is,
+  )

@@ -1,0 +1,198 @@
+-- What sessions keep stands behind entries of other lines, and each is finished under its own token.
+use Rattle.std.proofs.Common.{◌≡◌, ◌≢◌, ◌⊎◌, ℕ, zero, suc, ◌+◌, ◌≤◌, ◌<◌, List, [], ◌∷◌, ◌++◌, length, Bool, true, false, true≢false, not, refl, sym, ap, ap₂, ◌∙◌, subst, inl, inr, arith, eqb, eq-eqb, eqb-true, ne_eqb, append_assoc, append-nil, length-append, All}
+use Rattle.std.specs.Prelude.{Option, Some, None, ◌==◌, nat_le, slice_get, slice_set, map, option_and_then, option_map, if◌then◌else◌}
+use Rattle.std.proofs.lemmas.List.Elements.{All-append, All-nil, All-cons}
+use Rattle.expiring_lock.specs.declared.refusal.Busy.{Busy}
+use Rattle.expiring_lock.specs.declared.refusal.Stale.{Stale}
+use Rattle.expiring_lock.specs.declared.refusal.Stale.TheVariants.{Other, Ended}
+use Rattle.journal_entries.specs.declared.update.Outcome.{Outcome}
+use Rattle.journal_entries.specs.declared.act.Act.{Act}
+use Rattle.journal_entries.specs.declared.act.Act.TheVariants.{Made, Ticked, Acquired, Committed, Released, Unloaded}
+use Rattle.journal_entries.specs.declared.act.Entry.{Entry}
+use Rattle.journal_rules.specs.Documents.{IsMade, is_in, update_at}
+use Rattle.journal_rules.specs.Keeping.{cached, cached_by}
+use Rattle.journal_rules.specs.Legal.{IsLegal}
+use Rattle.journal_rules.specs.Locks.{Acquiring, HeldBy, Holds, acquired_by, acquirings, acquiring_of, is_held, is_held_in, last_acquiring, last_token, next_token, released, released_by, token_in, used_by}
+use Rattle.journal_rules.proofs.Pushing.{acquirings-push, cached-push, last_acquiring-push, released-push}
+use Rattle.journal_rules.proofs.Fencing.{made_stays}
+use Rattle.journal_rules.proofs.Lists.{some_same}
+use Rattle.journal_rules.proofs.Waits.{update_stays}
+use Rattle.turn_rules.specs.Locking.{staleness}
+use Rattle.turn_rules.specs.Turns.{entry_by}
+use Rattle.run_rules.specs.Keeping.{Preparation, Preparations, keeping}
+use Rattle.book.specs.declared.faults.Prepared.{Prepared}
+use Rattle.book.specs.Looking.{IsOf}
+use Rattle.session_runner.specs.Holding.{AreHeld, Stands, kept, kept_in, preparation_of}
+use Rattle.session_runner.specs.Apart.{GoesApart}
+use Rattle.session_runner.proofs.Apart.{keeps_cached, stays, unused}
+
+-- ---- one entry more
+still_acquired : (d : ℕ) (e : Entry) (o : Option Acquiring) (a : Acquiring) → e.seat ≡ 0 → o ≡ Some a → a.seat ≡ 0 → (b : Acquiring) × (acquired_by d e.seat e.act o ≡ Some b) × (b.seat ≡ 0)
+still_acquired d e o a own is first = by e.act
+  where
+    taken : (t : Bool) (doc token until : ℕ) → (b : Acquiring) × ((if t then Some (record { seat = e.seat; doc = doc; token = token; until = until }) else o) ≡ Some b) × (b.seat ≡ 0)
+    taken true doc token until = (record { seat = e.seat; doc = doc; token = token; until = until }, refl, own)
+    taken false doc token until = (a, is, first)
+
+    by : (act : Act) → (b : Acquiring) × (acquired_by d e.seat act o ≡ Some b) × (b.seat ≡ 0)
+    by (Acquired doc token until) = taken (doc == d) doc token until
+    by _ = (a, is, first)
+
+pub one_more : (j : List Entry) (e : Entry) (p : Prepared) → e.seat ≡ 0 → cached_by p.look.doc e.act true ≡ true → is_in p.look.token (used_by e.act) ≡ false → Stands j p → Stands (j ++ e ∷ []) p
+one_more j e p own caches fresh was =
+    let last = still_acquired p.look.doc e (last_acquiring p.look.doc j) was.last own was.last_is was.own in
+    let of = was.looked in
+    let tokens = ap length (acquirings-push j e) in
+    let sum = length-append (acquirings j) (acquiring_of e.seat e.act) in
+    let low = was.given in
+    record {
+      seat_is = was.seat_is;
+      made = made_stays p.look.doc j e was.made;
+      cached_is = cached-push p.look.doc j e ∙ ap (cached_by p.look.doc e.act) was.cached_is ∙ caches;
+      given = omega (arith, tokens, sum, low);
+      last = last.0;
+      last_is = last_acquiring-push p.look.doc j e ∙ last.1;
+      own = last.2;
+      named = update_stays j (e ∷ []) p.look.ticket p.look.update was.named;
+      looked = record {
+        early = of.early;
+        more = of.more ++ e ∷ [];
+        journal_is = ap (λ (l : List Entry). l ++ e ∷ []) of.journal_is ∙ append_assoc of.early of.more (e ∷ []);
+        looks = of.looks;
+        unused = All-append (λ (x : Entry). is_in p.look.token (used_by x.act) ≡ false) of.more (e ∷ []) of.unused (All-cons (λ (x : Entry). is_in p.look.token (used_by x.act) ≡ false) e [] fresh (All-nil (λ (x : Entry). is_in p.look.token (used_by x.act) ≡ false)));
+      };
+      decided = was.decided;
+    }
+
+-- ---- entries that are apart
+pub behind_apart : (holds : List (Option Prepared)) (left last : List Entry) → GoesApart (next_token left) left last → AreHeld holds left → AreHeld holds last
+behind_apart holds left last g held = record { stands = each; apart = held.apart }
+  where
+    each : (session : ℕ) (p : Prepared) → slice_get holds session ≡ Some (Some p) → Stands last p
+    each session p at =
+        let was = held.stands session p at in
+        let low = was.given in
+        stays (next_token left) (λ j. Stands j p)
+        (λ j e apart. one_more j e p apart.own (keeps_cached (next_token left) p.look.doc e.act apart.apart) (unused (next_token left) p.look.token e (omega (arith, low)) apart)) left last g was
+
+pub behind_one : (holds : List (Option Prepared)) (j last : List Entry) (e : Entry) → last ≡ j ++ e ∷ [] → e.seat ≡ 0 → ((d : ℕ) → cached_by d e.act true ≡ true) → ((t : ℕ) → is_in t (used_by e.act) ≡ false) → AreHeld holds j → AreHeld holds last
+behind_one holds j last e is own caches unused held = record {
+  stands = λ session p at. subst (λ (l : List Entry). Stands l p) (sym is) (one_more j e p own (caches p.look.doc) (unused p.look.token) (held.stands session p at));
+  apart = held.apart;
+}
+
+-- ---- lists of what is kept
+module _ {A : Type 0} where
+  set_here : (xs : List A) (i : ℕ) (x : A) → i < length xs → slice_get (slice_set xs i x) i ≡ Some x
+  set_here [] i x lt = absurd (omega (arith, lt))
+  set_here (y ∷ ys) zero x lt = refl
+  set_here (y ∷ ys) (suc i) x lt = set_here ys i x (omega (arith, lt))
+
+  set_there : (xs : List A) (i k : ℕ) (x : A) → i ≢ k → slice_get (slice_set xs i x) k ≡ slice_get xs k
+  set_there [] i k x apart = refl
+  set_there (y ∷ ys) zero zero x apart = absurd (apart refl)
+  set_there (y ∷ ys) zero (suc k) x apart = refl
+  set_there (y ∷ ys) (suc i) zero x apart = refl
+  set_there (y ∷ ys) (suc i) (suc k) x apart = set_there ys i k x (λ same. apart (ap suc same))
+
+pub kept_set : (holds : List (Option Prepared)) (session : ℕ) (o : Option Prepared) → session < length holds → kept_in (slice_set holds session o) ≡ keeping session (kept o) (kept_in holds)
+kept_set holds session o lt = λ i s. each s i
+  where
+    at : (s : ℕ) (b : Bool) → (session == s) ≡ b → kept_in (slice_set holds session o) s ≡ (if b then kept o else kept_in holds s)
+    at s true e = ap (λ (k : ℕ). option_and_then kept (slice_get (slice_set holds session o) k)) (sym (eqb-true session s e)) ∙ ap (option_and_then kept) (set_here holds session o lt)
+    at s false e = ap (option_and_then kept) (set_there holds session s o (λ same. true≢false (sym (eq-eqb session s same) ∙ e)))
+
+    each : (s : ℕ) → kept_in (slice_set holds session o) s ≡ keeping session (kept o) (kept_in holds) s
+    each s = at s (session == s) refl
+
+-- what is left where a session gives up what it kept is another's
+pub of_another : (holds : List (Option Prepared)) (session s : ℕ) (p : Prepared) → session < length holds → slice_get (slice_set holds session None) s ≡ Some (Some p) → (session ≢ s) × (slice_get holds s ≡ Some (Some p))
+of_another holds session s p lt at = by (session == s) refl
+  where
+    by : (b : Bool) → (session == s) ≡ b → (session ≢ s) × (slice_get holds s ≡ Some (Some p))
+    by true e =
+        let none : Some None ≡ Some (Some p) = sym (set_here holds session None lt) ∙ ap (slice_get (slice_set holds session None)) (eqb-true session s e) ∙ at in absurd (cc)
+    by false e =
+        let apart : session ≢ s = λ same. true≢false (sym (eq-eqb session s same) ∙ e) in (apart, sym (set_there holds session s None apart) ∙ at)
+
+-- what a session gives up
+pub given_up : (holds : List (Option Prepared)) (j : List Entry) (session : ℕ) → session < length holds → AreHeld holds j → AreHeld (slice_set holds session None) j
+given_up holds j session lt held = record {
+  stands = λ s p at. held.stands s p (of_another holds session s p lt at).1;
+  apart = λ one other p q differ at other_at. held.apart one other p q differ (of_another holds session one p lt at).1 (of_another holds session other q lt other_at).1;
+}
+
+-- what a session keeps more, under a token that is above those before
+pub taken_up : (holds : List (Option Prepared)) (left j : List Entry) (session : ℕ) (p : Prepared) → session < length holds → slice_get holds session ≡ Some None → next_token left ≡ p.look.token → AreHeld holds left → GoesApart (next_token left) left j → Stands j p
+    → AreHeld (slice_set holds session (Some p)) j
+taken_up holds left j session p lt none token held g stands_now = record { stands = stands_all; apart = apart_all }
+  where
+    after : AreHeld holds j
+    after = behind_apart holds left j g held
+
+    of : (s : ℕ) (q : Prepared) → slice_get (slice_set holds session (Some p)) s ≡ Some (Some q) → ((session ≡ s) × (q ≡ p)) ⊎ (slice_get holds s ≡ Some (Some q))
+    of s q at = by (session == s) refl
+      where
+        by : (b : Bool) → (session == s) ≡ b → ((session ≡ s) × (q ≡ p)) ⊎ (slice_get holds s ≡ Some (Some q))
+        by true e =
+            let same : Some (Some p) ≡ Some (Some q) = sym (set_here holds session (Some p) lt) ∙ ap (slice_get (slice_set holds session (Some p))) (eqb-true session s e) ∙ at in
+            inl (eqb-true session s e, cc)
+        by false e = inr (sym (set_there holds session s (Some p) (λ same. true≢false (sym (eq-eqb session s same) ∙ e))) ∙ at)
+
+    stands_all : (s : ℕ) (q : Prepared) → slice_get (slice_set holds session (Some p)) s ≡ Some (Some q) → Stands j q
+    stands_all s q at = by (of s q at)
+      where
+        by : ((session ≡ s) × (q ≡ p)) ⊎ (slice_get holds s ≡ Some (Some q)) → Stands j q
+        by (inl x) = subst (λ (r : Prepared). Stands j r) (sym x.1) stands_now
+        by (inr was) = after.stands s q was
+
+    low : (s : ℕ) (q : Prepared) → slice_get holds s ≡ Some (Some q) → q.look.token < p.look.token
+    low s q at = let given = (held.stands s q at).given in omega (arith, given, token)
+
+    apart_all : (one other : ℕ) (q r : Prepared) → one ≢ other → slice_get (slice_set holds session (Some p)) one ≡ Some (Some q) → slice_get (slice_set holds session (Some p)) other ≡ Some (Some r) → q.look.token ≢ r.look.token
+    apart_all one other q r differ at other_at = by (of one q at) (of other r other_at)
+      where
+        by : ((session ≡ one) × (q ≡ p)) ⊎ (slice_get holds one ≡ Some (Some q)) → ((session ≡ other) × (r ≡ p)) ⊎ (slice_get holds other ≡ Some (Some r)) → q.look.token ≢ r.look.token
+        by (inl x) (inl y) = absurd (differ (sym x.0 ∙ y.0))
+        by (inl x) (inr y) = λ same. let l = low other r y in let t = ap (λ (s : Prepared). s.look.token) x.1 in omega (arith, l, t, same)
+        by (inr x) (inl y) = λ same. let l = low one q x in let t = ap (λ (s : Prepared). s.look.token) y.1 in omega (arith, l, t, same)
+        by (inr x) (inr y) = held.apart one other q r differ x y
+
+-- ---- under a token
+pub held_own : (d token : ℕ) (j : List Entry) (a : Acquiring) → last_acquiring d j ≡ Some a → a.seat ≡ 0 → staleness d token j ≡ None → Holds 0 d token j
+held_own d token j a last own none = by (last_token d j == token) refl (is_held d j) refl none
+  where
+    by : (b : Bool) → (last_token d j == token) ≡ b → (h : Bool) → is_held d j ≡ h → (if b then (if h then None else Some Ended) else Some (Other (last_token d j))) ≡ None → Holds 0 d token j
+    by false same h held none = absurd (cc)
+    by true same false held none = absurd (cc)
+    by true same true held none =
+        let standing : not (is_in a.token (released j)) ≡ true = ap (λ o. is_held_in o (released j)) (sym last) ∙ held in
+        record {
+          acquiring = a;
+          held = record { last = last; standing = is_false (is_in a.token (released j)) standing };
+          token_is = ap token_in (sym last) ∙ eqb-true (last_token d j) token same;
+          seat_is = own;
+        }
+      where
+        is_false : (b : Bool) → not b ≡ true → b ≡ false
+        is_false true e = absurd (true≢false (sym e))
+        is_false false e = refl
+
+-- an update that is committed leaves who holds
+module _ (seat d token ticket : ℕ) (outcome : Outcome) (line : Option ℕ) (doc other : ℕ) (j last : List Entry) (is : last ≡ j ++ entry_by seat line (Committed doc other ticket outcome) ∷ []) where
+  same_last : last_acquiring d last ≡ last_acquiring d j
+  same_last = ap (last_acquiring d) is ∙ last_acquiring-push d j (entry_by seat line (Committed doc other ticket outcome))
+
+  same_released : released last ≡ released j
+  same_released = ap released is ∙ released-push j (entry_by seat line (Committed doc other ticket outcome)) ∙ append-nil (released j)
+
+  pub still_stale : staleness d token last ≡ staleness d token j
+  still_stale = ap₂ (λ (o : Option Acquiring) (ts : List ℕ). if token_in o == token then (if is_held_in o ts then None else Some Ended) else Some (Other (token_in o))) same_last same_released
+
+  pub still_holds : (by : ℕ) → Holds by d token j → Holds by d token last
+  still_holds by h = record {
+    acquiring = h.acquiring;
+    held = record { last = same_last ∙ h.held.last; standing = ap (is_in h.acquiring.token) same_released ∙ h.held.standing };
+    token_is = h.token_is;
+    seat_is = h.seat_is;
+  }

@@ -1,0 +1,221 @@
+-- What the lines that were done leave.
+use Rattle.std.proofs.Common.{◌≡◌, ◌≢◌, ◌⊎◌, ℕ, zero, suc, ◌+◌, ◌-◌, ◌≤◌, ◌<◌, List, [], ◌∷◌, ◌++◌, length, Bool, true, false, true≢false, ◌||◌, ◌&&◌, not, refl, sym, ap, ◌∙◌, subst, inl, inr, arith, append-nil, All}
+use Rattle.std.specs.Prelude.{Option, Some, None, Result, Ok, Err, OnOk, IfOk, ◌==◌, is_some, map, slice_get, option_and_then, position, cond, nat_lt, if◌then◌else◌}
+use Rattle.std.specs.List.{list_all, list_any, position_or_len}
+use Rattle.std.proofs.lemmas.Bool.{le-ltb}
+use Rattle.std.proofs.lemmas.List.Elements.{All-append, All-nil, All-cons}
+use Rattle.ot_op.specs.declared.comp.Comp.{Comp}
+use Rattle.ot_op.specs.declared.fault.FormFault.{FormFault}
+use Rattle.journal_entries.specs.declared.act.Act.{Act}
+use Rattle.journal_entries.specs.declared.act.Act.TheVariants.{Made, Ticked, Declined}
+use Rattle.journal_entries.specs.declared.act.Entry.{Entry}
+use Rattle.journal_entries.specs.declared.why.Why.{Why}
+use Rattle.journal_entries.specs.declared.why.Why.TheVariants.{NoDoc, Holding}
+use Rattle.journal_rules.specs.Documents.{Making, is_in, is_named, making_of, makings, number_in, number_of, waiting}
+use Rattle.journal_rules.specs.Keeping.{cached_by}
+use Rattle.journal_rules.specs.Legal.{closed}
+use Rattle.journal_rules.specs.Locks.{clock, next_token, used_by}
+use Rattle.journal_rules.proofs.Pushing.{closed-push, clock-push, makings-push}
+use Rattle.ending_rules.specs.Rounds.{joins_below}
+use Rattle.turn_rules.specs.Draining.{Drains, Stop, TakesUp}
+use Rattle.turn_rules.specs.Turns.{Alone, entry_by}
+use Rattle.run_rules.specs.Keeping.{Preparation, Preparations, keeping, nothing_kept}
+use Rattle.run_rules.specs.Lines.{DrainsNamed, DrainsSoMany, Holds, HoldsNamed, HoldsUnless, not_holdable, stop_acts}
+use Rattle.session_lines.specs.Script.{session_of}
+use Rattle.session_lines.specs.Standing.{AreBySessions, is_one_of, moved_by}
+use Rattle.ending_rules.proofs.Apart.{all_first, all_later}
+use Rattle.session_lines.specs.declared.line.Line.{Line}
+use Rattle.session_lines.specs.declared.line.Line.TheVariants.{Doc, Tick}
+use Rattle.book.specs.Calls.{raw_act, raw_act_of}
+use Rattle.book.specs.Shown.{Shown, adds}
+use Rattle.book.specs.declared.faults.Prepared.{Prepared}
+use Rattle.book.specs.declared.faults.RawUpdate.{RawUpdate}
+use Rattle.session_runner.specs.declared.driver.Driver.{Driver}
+use Rattle.session_runner.specs.Apart.{GoesApart, IsApart, IsBehind, IsUnjoined, is_apart}
+use Rattle.session_runner.specs.Fitting.{makings_by}
+use Rattle.session_runner.specs.Holding.{AreHeld, IsDriver, kept, kept_in}
+use Rattle.session_runner.proofs.Apart.{same_clock, same_closed, same_if, same_joined, same_makings, wrote}
+use Rattle.session_runner.proofs.Holding.{behind_apart, behind_one}
+
+-- what holds where a call was done holds so
+pub on_ok : {T E A B : Type 0} (r : Result T E) → (A → B) → OnOk r A → OnOk r B
+on_ok (Ok x) f a = f a
+on_ok (Err e) f a = tt
+
+pub both_ok : {T E : Type 0} (A B : Type 0) (r : Result T E) → OnOk r A → OnOk r B → OnOk r (A × B)
+both_ok A B (Ok x) a b = (a, b)
+both_ok A B (Err e) a b = tt
+
+-- ---- what a session keeps
+there_is : {A : Type 0} (xs : List A) (i : ℕ) → i < length xs → (x : A) × (slice_get xs i ≡ Some x)
+there_is [] i lt = absurd (omega (arith, lt))
+there_is (x ∷ xs) zero lt = (x, refl)
+there_is (x ∷ xs) (suc i) lt = there_is xs i (omega (arith, lt))
+
+pub keeps_none : (holds : List (Option Prepared)) (session : ℕ) (b : Bool) → session < length holds → ((o : Option Prepared) → slice_get holds session ≡ Some o → b ≡ is_some o) → b ≡ false → slice_get holds session ≡ Some None
+keeps_none holds session b lt tells none = let x = there_is holds session lt in by x.0 x.1
+  where
+    by : (o : Option Prepared) → slice_get holds session ≡ Some o → slice_get holds session ≡ Some None
+    by None at = at
+    by (Some p) at = absurd (true≢false (sym (tells (Some p) at) ∙ none))
+
+pub keeps_some : (holds : List (Option Prepared)) (session : ℕ) (b : Bool) → session < length holds → ((o : Option Prepared) → slice_get holds session ≡ Some o → b ≡ is_some o) → b ≡ true → (p : Preparation) × (kept_in holds session ≡ Some p)
+keeps_some holds session b lt tells some = let x = there_is holds session lt in by x.0 x.1
+  where
+    by : (o : Option Prepared) → slice_get holds session ≡ Some o → (p : Preparation) × (kept_in holds session ≡ Some p)
+    by None at = absurd (true≢false (sym some ∙ tells None at))
+    by (Some p) at = (record { doc = p.look.doc; token = p.look.token }, ap (λ o. kept_of o) at)
+      where
+        kept_of : Option (Option Prepared) → Option Preparation
+        kept_of None = None
+        kept_of (Some o) = kept o
+
+-- ---- `hold`
+module _ (by : Act → Entry) (session : ℕ) (name : List ℕ) (p : Option Preparation) (kept_now : Preparations) (look last : List Entry) where
+  pub holds_already : ((q : Preparation) × (p ≡ Some q)) → last ≡ look ++ by (Declined session Holding) ∷ [] → Holds by Alone session p name kept_now look last kept_now
+  holds_already q is = subst (λ o. Holds by Alone session o name kept_now look last kept_now) (sym q.1) (is, refl)
+
+  pub holds_unnamed : p ≡ None → number_of name look ≡ None → last ≡ look ++ by (Declined session NoDoc) ∷ [] → Holds by Alone session p name kept_now look last kept_now
+  holds_unnamed none unnamed is =
+      subst (λ o. Holds by Alone session o name kept_now look last kept_now) (sym none) (subst (λ o. HoldsNamed by Alone session o kept_now look last kept_now) (sym unnamed) (is, refl))
+
+  pub holds_why : (doc : ℕ) (why : Why) → p ≡ None → number_of name look ≡ Some doc → not_holdable doc look ≡ Some why → last ≡ look ++ by (Declined session why) ∷ [] → Holds by Alone session p name kept_now look last kept_now
+  holds_why doc why none named not is =
+      subst (λ o. Holds by Alone session o name kept_now look last kept_now) (sym none) (subst (λ o. HoldsNamed by Alone session o kept_now look last kept_now) (sym named)
+      (subst (λ o. HoldsUnless by Alone session doc o kept_now look last kept_now) (sym not) (is, refl)))
+
+  pub holds_taken : (doc token : ℕ) (made : List Entry) (after : Preparations) → p ≡ None → number_of name look ≡ Some doc → not_holdable doc look ≡ None → TakesUp by doc token true look made → last ≡ look ++ made
+      → after ≡ keeping session (Some (record { doc = doc; token = token })) kept_now → Holds by Alone session p name kept_now look last after
+  holds_taken doc token made after none named can takes is keeps =
+      subst (λ o. Holds by Alone session o name kept_now look last after) (sym none) (subst (λ o. HoldsNamed by Alone session o kept_now look last after) (sym named)
+      (subst (λ o. HoldsUnless by Alone session doc o kept_now look last after) (sym can) (token, true, made, takes, (is, keeps))))
+
+-- ---- `drain`
+pub drains_so_many : (by : Act → Entry) (session doc n : ℕ) (first mid last : List Entry) (stop : Stop) → 0 < n → Drains by Alone doc n first mid stop → last ≡ mid ++ map by (stop_acts session stop) → DrainsSoMany by Alone session doc n first last
+drains_so_many by session doc zero first mid last stop some drains is = absurd (omega (arith, some))
+drains_so_many by session doc (suc n) first mid last stop some drains is = (mid, stop, drains, is)
+
+pub drains_named : (by : Act → Entry) (session doc : ℕ) (name : List ℕ) (first mid last : List Entry) (stop : Stop) → number_of name first ≡ Some doc → 0 < length (waiting doc first) → Drains by Alone doc (length (waiting doc first)) first mid stop
+    → last ≡ mid ++ map by (stop_acts session stop) → DrainsNamed by Alone session (number_of name first) first last
+drains_named by session doc name first mid last stop named some drains is =
+    subst (λ o. DrainsNamed by Alone session o first last) (sym named) (drains_so_many by session doc (length (waiting doc first)) first mid last stop some drains is)
+
+-- ---- a book with one entry more
+module _ (driver : Driver) (new : Shown) (line : Option ℕ) where
+  pub added : (act : Act) → ((d : ℕ) → cached_by d act true ≡ true) → ((t : ℕ) → is_in t (used_by act) ≡ false) → IsDriver driver → new ≡ adds driver.book 0 line (act ∷ []) → IsDriver (record { book = new; holds = driver.holds })
+  added act caches unused was is = record {
+    alone = ap (λ (b : Shown). b.drivers) is ∙ was.alone;
+    held = behind_one driver.holds.items driver.book.journal new.journal (entry_by 0 line act) (ap (λ (b : Shown). b.journal) is) refl caches unused was.held;
+  }
+
+  pub declined : (session : ℕ) (why : Why) → IsDriver driver → new ≡ adds driver.book 0 line (Declined session why ∷ []) → IsDriver (record { book = new; holds = driver.holds })
+  declined session why = added (Declined session why) (λ d. refl) (λ t. refl)
+
+  pub drained : new.drivers ≡ driver.book.drivers → GoesApart (next_token driver.book.journal) driver.book.journal new.journal → IsDriver driver → IsDriver (record { book = new; holds = driver.holds })
+  drained same g was = record { alone = same ∙ was.alone; held = behind_apart driver.holds.items driver.book.journal new.journal g was.held }
+
+raw_caches : (op : Result (List Comp) FormFault) (now : ℕ) (u : RawUpdate) (d : ℕ) → cached_by d (raw_act_of op now u) true ≡ true
+raw_caches (Ok op) now u d = refl
+raw_caches (Err fault) now u d = refl
+
+raw_uses : (op : Result (List Comp) FormFault) (now : ℕ) (u : RawUpdate) (t : ℕ) → is_in t (used_by (raw_act_of op now u)) ≡ false
+raw_uses (Ok op) now u t = refl
+raw_uses (Err fault) now u t = refl
+
+raw_apart : (op : Result (List Comp) FormFault) (now : ℕ) (u : RawUpdate) (from : ℕ) → is_apart from (raw_act_of op now u) ≡ true
+raw_apart (Ok op) now u from = refl
+raw_apart (Err fault) now u from = refl
+
+pub sent : (driver : Driver) (new : Shown) (line : Option ℕ) (now : ℕ) (u : RawUpdate) → IsDriver driver → new ≡ adds driver.book 0 line (raw_act now u ∷ []) → IsDriver (record { book = new; holds = driver.holds })
+sent driver new line now u = added driver new line (raw_act now u) (raw_caches u.op now u) (raw_uses u.op now u)
+
+pub made : (driver : Driver) (new : Shown) (line : Option ℕ) (doc : ℕ) (name project first : List ℕ) (base : ℕ) → IsDriver driver → new ≡ adds driver.book 0 line (Made doc name project first base ∷ []) → IsDriver (record { book = new; holds = driver.holds })
+made driver new line doc name project first base = added driver new line (Made doc name project first base) (λ d. same_if (doc == d)) (λ t. refl)
+
+pub ticked : (driver : Driver) (new : Shown) (line : Option ℕ) (ms : ℕ) → IsDriver driver → new ≡ adds driver.book 0 line (Ticked ms ∷ []) → IsDriver (record { book = new; holds = driver.holds })
+ticked driver new line ms = added driver new line (Ticked ms) (λ d. refl) (λ t. refl)
+
+-- ---- behind a line
+pub apart_behind : (line : Line) (from : ℕ) (left last : List Entry) → ((ms : List Making) → makings_by ms line ≡ ms) → moved_by line ≡ 0 → GoesApart from left last → IsBehind line left last
+apart_behind line from left last none still g =
+    let c = same_clock from left last g in
+    record {
+      makings_are = same_makings from left last g ∙ sym (none (makings left));
+      clock_is = let same : clock last ≡ clock left + moved_by line = omega (arith, c, still) in same;
+      closed_is = same_closed from left last g;
+      unjoined = same_joined from left last g;
+    }
+
+pub one_unjoined : (j : List Entry) (e : Entry) → joins_below 0 e.act ≡ true → IsUnjoined j → IsUnjoined (j ++ e ∷ [])
+one_unjoined j e is all = All-append (λ (x : Entry). joins_below 0 x.act ≡ true) j (e ∷ []) all (All-cons (λ (x : Entry). joins_below 0 x.act ≡ true) e [] is (All-nil (λ (x : Entry). joins_below 0 x.act ≡ true)))
+
+module _ (line : Option ℕ) (left last : List Entry) where
+  pub behind_doc : (doc : ℕ) (name project first : List ℕ) (base : ℕ) → last ≡ left ++ entry_by 0 line (Made doc name project first base) ∷ [] → IsBehind (Doc name project first base) left last
+  behind_doc doc name project first base is =
+      let e = entry_by 0 line (Made doc name project first base) in
+      let c = ap clock is ∙ clock-push left e in
+      record {
+        makings_are = ap makings is ∙ makings-push left e;
+        clock_is = let same : clock last ≡ clock left + 0 = omega (arith, c) in same;
+        closed_is = ap closed is ∙ closed-push left e ∙ append-nil (closed left);
+        unjoined = λ all. subst IsUnjoined (sym is) (one_unjoined left e refl all);
+      }
+
+  pub behind_tick : (session ms : ℕ) → last ≡ left ++ entry_by 0 line (Ticked ms) ∷ [] → IsBehind (Tick session ms) left last
+  behind_tick session ms is =
+      let e = entry_by 0 line (Ticked ms) in
+      record {
+        makings_are = ap makings is ∙ makings-push left e ∙ append-nil (makings left);
+        clock_is = ap clock is ∙ clock-push left e;
+        closed_is = ap closed is ∙ closed-push left e ∙ append-nil (closed left);
+        unjoined = λ all. subst IsUnjoined (sym is) (one_unjoined left e refl all);
+      }
+
+  pub apart_raw : (from now : ℕ) (u : RawUpdate) → last ≡ left ++ entry_by 0 line (raw_act now u) ∷ [] → GoesApart from left last
+  apart_raw from now u is = wrote line from (raw_act now u) left last (raw_apart u.op now u from) is
+
+-- ---- a name that is new
+module _ {A : Type 0} (p : A → Bool) where
+  nowhere : (xs : List A) → list_any p xs ≡ false → length xs ≤ position_or_len p xs
+  nowhere [] e = omega arith
+  nowhere (x ∷ xs) e = go (p x) e (nowhere xs)
+    where
+      go : (b : Bool) → (b || list_any p xs) ≡ false → (list_any p xs ≡ false → length xs ≤ position_or_len p xs) → length (x ∷ xs) ≤ cond (not b) (1 + position_or_len p xs) 0
+      go true e h = absurd (true≢false e)
+      go false e h = let l = h e in omega (arith, l)
+
+  pub none_found : (xs : List A) → list_any p xs ≡ false → position p xs ≡ None
+  none_found xs e = ap (λ b. if b then Some (position_or_len p xs) else None) (le-ltb (position_or_len p xs) (length xs) (nowhere xs e))
+
+-- ---- lines and their sessions
+and_left : (a b : Bool) → (a && b) ≡ true → (a ≡ true) × (b ≡ true)
+and_left true b e = (refl, e)
+and_left false b e = absurd (true≢false (sym e))
+
+pub by_parts : (n m : ℕ) (l : Line) (ls : List Line) → n ≡ m → AreBySessions n (l ∷ ls) → is_one_of m (session_of l) ≡ true
+by_parts n m l ls same by = ap (λ k. is_one_of k (session_of l)) (sym same) ∙ (and_left (is_one_of n (session_of l)) (list_all (λ x. is_one_of n (session_of x)) ls) by).0
+
+pub by_rest : (n : ℕ) (l : Line) (ls : List Line) → AreBySessions n (l ∷ ls) → AreBySessions n ls
+by_rest n l ls by = (and_left (is_one_of n (session_of l)) (list_all (λ x. is_one_of n (session_of x)) ls) by).1
+
+-- ---- at first
+at_none : (holds : List (Option Prepared)) → All (λ k. k ≡ None) holds → (s : ℕ) (o : Option Prepared) → slice_get holds s ≡ Some o → o ≡ None
+at_none [] all s o at = absurd (cc)
+at_none (x ∷ xs) all zero o at = let same : x ≡ o = cc in sym same ∙ all_first (λ (k : Option Prepared). k ≡ None) x xs all
+at_none (x ∷ xs) all (suc s) o at = at_none xs (all_later (λ (k : Option Prepared). k ≡ None) x xs all) s o at
+
+pub kept_none : (holds : List (Option Prepared)) → All (λ k. k ≡ None) holds → kept_in holds ≡ nothing_kept
+kept_none holds all = λ i s. each s (slice_get holds s) refl i
+  where
+    each : (s : ℕ) (o : Option (Option Prepared)) → slice_get holds s ≡ o → kept_in holds s ≡ None
+    each s None at = ap (option_and_then kept) at
+    each s (Some o) at = ap (option_and_then kept) (at ∙ ap (λ x. Some x) (at_none holds all s o at))
+
+pub empty_driver : (driver : Driver) → driver.book ≡ record { journal = []; drivers = 0 } → All (λ k. k ≡ None) driver.holds.items → IsDriver driver
+empty_driver driver book all = record {
+  alone = ap (λ (b : Shown). b.drivers) book;
+  held = record {
+    stands = λ session p at. let e = at_none driver.holds.items all session (Some p) at in absurd (cc);
+    apart = λ one other p q differ at other_at. let e = at_none driver.holds.items all one (Some p) at in absurd (cc);
+  };
+}

@@ -1,0 +1,110 @@
+-- The rounds of a run that nobody joined: they are drains alone.
+use Rattle.std.proofs.Common.{◌≡◌, ◌≢◌, ◌⊎◌, ℕ, zero, suc, ◌+◌, ◌-◌, ◌<◌, ◌≤◌, List, [], ◌∷◌, ◌++◌, length, Bool, true, false, true≢false, ◌||◌, ◌&&◌, refl, sym, ap, ap₂, ◌∙◌, subst, inl, inr, arith, All}
+use Rattle.std.specs.Prelude.{Option, Some, None}
+use Rattle.journal_entries.specs.declared.act.Entry.{Entry}
+use Rattle.journal_rules.specs.declared.state.ClientState.{ClientState}
+use Rattle.journal_rules.specs.declared.state.ClientState.TheVariants.{Joined}
+use Rattle.journal_rules.specs.Client.{client, has_flight}
+use Rattle.journal_rules.specs.Documents.{makings, waiting}
+use Rattle.journal_rules.specs.Legal.{IsLegal}
+use Rattle.journal_rules.specs.Mail.{mail}
+use Rattle.ending_rules.specs.Rounds.{any_below, has_any, is_unfinished, needs_round}
+use Rattle.ending_rules.proofs.Clients.{below_clients}
+use Rattle.turn_rules.specs.Clients.{is_joined}
+use Rattle.turn_rules.specs.Turns.{entry_by}
+use Rattle.run_rules.specs.Ending.{CatchesUp, CatchesUpIf, DrainsDry, InOrder, IsRound, Rounds}
+use Rattle.session_runner.specs.Apart.{IsUnjoined}
+use Rattle.session_runner.specs.Draining.{DrainsMany, Drained}
+use Rattle.session_runner.specs.declared.drain.DrainEnd.TheVariants.{Done}
+use Rattle.session_runner.proofs.Draining.{drains_done, fewer}
+
+-- ---- nobody catches up
+not_joined : (st : ClientState) → st ≢ Joined → is_joined st ≡ false
+not_joined Joined apart = absurd (apart refl)
+not_joined _ apart = refl
+
+away : (j : List Entry) → IsUnjoined j → (c : ℕ) → is_joined (client c j).state ≡ false
+away j all c = not_joined (client c j).state (below_clients 0 j all c (omega arith))
+
+none_unfinished : (j : List Entry) → IsUnjoined j → (c : ℕ) → is_unfinished c j ≡ false
+none_unfinished j all c = ap (λ b. b && (has_any (mail c j) || has_flight (client c j).flight || has_any (client c j).pending)) (away j all c)
+
+none_below : (p : ℕ → Bool) (n : ℕ) → ((k : ℕ) → p k ≡ false) → any_below p n ≡ false
+none_below p zero none = refl
+none_below p (suc n) none = ap₂ (λ (a b : Bool). a || b) (none_below p n none) (none n)
+
+or_false : (b : Bool) → (b || false) ≡ b
+or_false true = refl
+or_false false = refl
+
+abbrev pub some_waits : List Entry → Bool
+some_waits j = any_below (λ d. has_any (waiting d j)) (length (makings j))
+
+-- a round is needed just where something waits
+pub needs_only : (sessions : ℕ) (j : List Entry) → IsUnjoined j → needs_round sessions j ≡ some_waits j
+needs_only sessions j all = ap (λ b. some_waits j || b) (none_below (λ c. is_unfinished c j) sessions (none_unfinished j all)) ∙ or_false (some_waits j)
+
+stays_away : (n : ℕ) (j : List Entry) → IsUnjoined j → InOrder CatchesUp n j j
+stays_away zero j all = refl
+stays_away (suc n) j all = (j, stays_away n j all, subst (λ b. CatchesUpIf b n j j) (sym (away j all n)) refl)
+
+-- ---- rounds
+pub ends_rounds : (sessions most : ℕ) (j : List Entry) → IsUnjoined j → some_waits j ≡ false → Rounds sessions most j j
+ends_rounds sessions zero j all none = refl
+ends_rounds sessions (suc most) j all none = inl (needs_only sessions j all ∙ none, refl)
+
+pub one_round : (sessions most : ℕ) (j mid last : List Entry) → IsUnjoined j → IsUnjoined mid → some_waits j ≡ true → InOrder DrainsDry (length (makings j)) j mid → Rounds sessions most mid last → Rounds sessions (suc most) j last
+one_round sessions most j mid last all all_mid some dry rest = inr (needs_only sessions j all ∙ some, (mid, (mid, dry, stays_away sessions mid all_mid), rest))
+
+pub one_round_of : (sessions n : ℕ) (j mid last : List Entry) → 0 < n → IsUnjoined j → IsUnjoined mid → some_waits j ≡ true → InOrder DrainsDry (length (makings j)) j mid → Rounds sessions (n - 1) mid last → Rounds sessions n j last
+one_round_of sessions zero j mid last some all all_mid waits dry rest = absurd (omega (arith, some))
+one_round_of sessions (suc n) j mid last some all all_mid waits dry rest =
+    let same : suc n - 1 ≡ n = omega arith in
+    one_round sessions n j mid last all all_mid waits dry (subst (λ (k : ℕ). Rounds sessions k mid last) same rest)
+
+pub no_rounds : (sessions n : ℕ) (j : List Entry) → n ≤ 0 → Rounds sessions n j j
+no_rounds sessions zero j le = refl
+no_rounds sessions (suc n) j le = absurd (omega (arith, le))
+
+-- ---- what waits, document by document
+pub none_more : (p : ℕ → Bool) (n : ℕ) → any_below p n ≡ false → p n ≡ false → any_below p (n + 1) ≡ false
+none_more p n below at = let same : suc n ≡ n + 1 = omega arith in subst (λ (k : ℕ). any_below p k ≡ false) same (ap₂ (λ (a b : Bool). a || b) below at)
+
+or_true : (a : Bool) → (a || true) ≡ true
+or_true true = refl
+or_true false = refl
+
+pub some_at : (p : ℕ → Bool) (k n : ℕ) → k < n → p k ≡ true → any_below p n ≡ true
+some_at p k zero lt is = absurd (omega (arith, lt))
+some_at p k (suc n) lt is = by (λ low. some_at p k n low is) (cases k n lt)
+  where
+    cases : (k n : ℕ) → k < suc n → (k ≡ n) ⊎ (k < n)
+    cases k n lt = grind arith
+
+    by : (k < n → any_below p n ≡ true) → (k ≡ n) ⊎ (k < n) → (any_below p n || p n) ≡ true
+    by below (inl same) = ap (λ b. any_below p n || b) (ap p (sym same) ∙ is) ∙ or_true (any_below p n)
+    by below (inr low) = ap (λ b. b || p n) (below low)
+
+pub has_some : {A : Type 0} (xs : List A) → 0 < length xs → has_any xs ≡ true
+has_some [] some = absurd (omega (arith, some))
+has_some (x ∷ xs) some = refl
+
+pub has_none : {A : Type 0} (xs : List A) → length xs ≤ 0 → has_any xs ≡ false
+has_none [] none = refl
+has_none (x ∷ xs) none = absurd (omega (arith, none))
+
+-- ---- one more in order
+pub in_order_on : (Step : ℕ → List Entry → List Entry → Type 0) (n : ℕ) (left mid last : List Entry) → InOrder Step n left mid → Step n mid last → InOrder Step (n + 1) left last
+in_order_on Step n left mid last before step = let same : suc n ≡ n + 1 = omega arith in subst (λ (k : ℕ). InOrder Step k left last) same (mid, before, step)
+
+-- ---- a document that was drained as often as updates waited
+is_empty : {A : Type 0} (xs : List A) → length xs ≡ 0 → xs ≡ []
+is_empty [] e = refl
+is_empty (x ∷ xs) e = absurd (omega (arith, e))
+
+pub dry : (doc most count : ℕ) (left last : List Entry) → IsLegal last → most ≡ length (waiting doc left) → Drained (entry_by 0 None) doc most left last (Done count) → DrainsDry doc left last
+dry doc most count left last legal most_is d = (most, drains_done (entry_by 0 None) doc most count left last d, none d)
+  where
+    none : Drained (entry_by 0 None) doc most left last (Done count) → waiting doc last ≡ []
+    none (many, inl all) = let f = fewer None doc count left last legal many in is_empty (waiting doc last) (omega (arith, f, all, most_is))
+    none (many, inr x) = x.1

@@ -1,0 +1,17 @@
+use Rattle.std.proofs.Common.{◌≡◌, ◌≤◌, ◌-◌}
+use Rattle.journal_rules.specs.Documents.{IsMade}
+use Rattle.turn_rules.specs.Turns.{entry_by}
+use Rattle.session_runner.specs.Draining.{DrainsMany}
+use Rattle.session_runner.proofs.drain.drain.Given as goal
+
+-- so many were drained so far
+abbrev pub invariant-draining : goal.invariant-draining
+invariant-draining l = record {
+  many : DrainsMany (entry_by l.initial.by.seat l.initial.by.line) l.initial.doc l.count l.initial.book.journal l.book.journal;
+  made : IsMade l.initial.doc l.book.journal;
+  few : l.count ≤ l.initial.most;
+  drivers : l.book.drivers ≡ l.initial.book.drivers;
+}
+
+abbrev pub decreases-draining : goal.decreases-draining
+decreases-draining l = l.initial.most - l.count

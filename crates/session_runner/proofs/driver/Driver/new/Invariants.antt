@@ -1,0 +1,8 @@
+use Rattle.std.proofs.Common.{◌≡◌, ◌≤◌, ◌-◌, length, All, None}
+use Rattle.session_runner.proofs.driver.Driver.new.Given as goal
+
+abbrev pub invariant-filling : goal.invariant-filling
+invariant-filling l = (length l.holds.items ≤ l.initial.sessions) × All (λ kept. kept ≡ None) l.holds.items
+
+abbrev pub decreases-filling : goal.decreases-filling
+decreases-filling l = l.initial.sessions - length l.holds.items

@@ -1,0 +1,44 @@
+-- What lines leave that the runner counts on: the documents made, the clock, who joined, who closed, and the tokens under which updates were committed.
+use Rattle.std.specs.Prelude.{◌≡◌, ℕ, ◌+◌, nat_le, Bool, true, false, List, ◌++◌, All}
+use Rattle.journal_entries.specs.declared.act.Act.{Act}
+use Rattle.journal_entries.specs.declared.act.Act.TheVariants.{Made, Ticked, Joined, Committed, Unloaded, Closed}
+use Rattle.journal_entries.specs.declared.act.Entry.{Entry}
+use Rattle.journal_rules.specs.Documents.{makings}
+use Rattle.journal_rules.specs.Legal.{closed}
+use Rattle.journal_rules.specs.Locks.{clock}
+use Rattle.ending_rules.specs.Rounds.{joins_below}
+use Rattle.session_lines.specs.Standing.{moved_by}
+use Rattle.session_lines.specs.declared.line.Line.{Line}
+use Rattle.session_runner.specs.Fitting.{makings_by}
+
+-- an act that makes no document, leaves the clock and the cache, lets nobody join or close, and commits under no token below this one
+abbrev pub is_apart : ℕ → Act → Bool
+is_apart from (Made doc name project first base) = false
+is_apart from (Ticked ms) = false
+is_apart from (Joined session doc user track since source v) = false
+is_apart from (Committed doc token ticket outcome) = nat_le from token
+is_apart from (Unloaded doc token) = false
+is_apart from (Closed driver) = false
+is_apart from _ = true
+
+-- so it is, and by seat 0
+pub record IsApart (from : ℕ) (e : Entry) : Type 0 where
+  pub own : e.seat ≡ 0
+  pub apart : is_apart from e.act ≡ true
+
+-- a journal goes on by such entries
+pub record GoesApart (from : ℕ) (left last : List Entry) : Type 0 where
+  pub more : List Entry
+  pub last_is : last ≡ left ++ more
+  pub all : All (IsApart from) more
+
+-- nobody joined
+abbrev pub IsUnjoined : List Entry → Type 0
+IsUnjoined journal = All (λ e. joins_below 0 e.act ≡ true) journal
+
+-- a journal behind a line
+pub record IsBehind (line : Line) (left last : List Entry) : Type 0 where
+  pub makings_are : makings last ≡ makings_by (makings left) line
+  pub clock_is : clock last ≡ clock left + moved_by line
+  pub closed_is : closed last ≡ closed left
+  pub unjoined : IsUnjoined left → IsUnjoined last

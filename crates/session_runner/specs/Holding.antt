@@ -1,0 +1,44 @@
+-- What sessions keep from a `hold` to their next `finish`.
+use Rattle.std.specs.Prelude.{◌≡◌, ◌≢◌, ℕ, ◌≤◌, true, List, length, slice_get, Option, Some, None, option_and_then, option_map}
+use Rattle.journal_entries.specs.declared.act.Entry.{Entry}
+use Rattle.journal_rules.specs.Documents.{IsMade, update_at}
+use Rattle.journal_rules.specs.Keeping.{cached}
+use Rattle.journal_rules.specs.Locks.{Acquiring, acquirings, last_acquiring}
+use Rattle.book.specs.declared.faults.Prepared.{Prepared}
+use Rattle.book.specs.Looking.{IsDecided, IsOf}
+use Rattle.session_runner.specs.declared.driver.Driver.{Driver}
+use Rattle.run_rules.specs.Keeping.{Preparation, Preparations}
+
+-- a preparation, as the rules of runs see it
+abbrev pub preparation_of : Prepared → Preparation
+preparation_of p = record { doc = p.look.doc; token = p.look.token }
+
+abbrev pub kept : Option Prepared → Option Preparation
+kept o = option_map preparation_of o
+
+-- what each session keeps, by its number
+abbrev pub kept_in : List (Option Prepared) → Preparations
+kept_in holds session = option_and_then kept (slice_get holds session)
+
+-- a preparation stands: seat 0 looked at a document that is cached, under a token that was given, and whoever acquired the document last is seat 0 too; nothing was committed under the token since, and the decision is that of the look
+pub record Stands (journal : List Entry) (p : Prepared) : Type 0 where
+  pub seat_is : p.look.seat ≡ 0
+  pub made : IsMade p.look.doc journal
+  pub cached_is : cached p.look.doc journal ≡ true
+  pub given : p.look.token ≤ length (acquirings journal)
+  pub last : Acquiring
+  pub last_is : last_acquiring p.look.doc journal ≡ Some last
+  pub own : last.seat ≡ 0
+  pub named : update_at journal p.look.ticket ≡ Some p.look.update
+  pub looked : IsOf p.look journal
+  pub decided : IsDecided p.look p.decision
+
+-- what is kept stands, each under a token of its own
+pub record AreHeld (holds : List (Option Prepared)) (journal : List Entry) : Type 0 where
+  pub stands : (session : ℕ) (p : Prepared) → slice_get holds session ≡ Some (Some p) → Stands journal p
+  pub apart : (one other : ℕ) (p q : Prepared) → one ≢ other → slice_get holds one ≡ Some (Some p) → slice_get holds other ≡ Some (Some q) → p.look.token ≢ q.look.token
+
+-- a driver's book has no other drivers, and what sessions keep stands
+pub record IsDriver (driver : Driver) : Type 0 where
+  pub alone : driver.book.drivers ≡ 0
+  pub held : AreHeld driver.holds.items driver.book.journal

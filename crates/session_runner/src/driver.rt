@@ -1,0 +1,305 @@
+//! The driver of a run on one thread: it does the lines of a script in order.
+
+ghost use Rattle.std.specs.Prelude.{◌≡◌, ◌+◌, ◌<◌, ◌≤◌, ◌^◌, ◌-◌, ◌∷◌, [], true, length, slice_get, slice_set, sum_by, IfOk, OnOk, None, Some, Option, is_some, All};
+ghost use Rattle.book.specs.Calls.{raw_act};
+ghost use Rattle.book.specs.Shown.{adds};
+ghost use Rattle.book.specs.declared.faults.Prepared.{Prepared};
+ghost use Rattle.journal_entries.specs.declared.act.Act.TheVariants.{Made, Ticked};
+ghost use Rattle.journal_rules.specs.Deciding.{longest};
+ghost use Rattle.journal_rules.specs.Documents.{IsMade, makings, number_of};
+ghost use Rattle.journal_rules.specs.Legal.{IsRaw, clock_end, closed, highest_base};
+ghost use Rattle.journal_rules.specs.Locks.{clock, next_token};
+ghost use Rattle.session_lines.specs.Script.{session_of};
+ghost use Rattle.session_lines.specs.Standing.{AreBySessions, is_one_of, moved_by};
+ghost use Rattle.run_rules.specs.Keeping.{keeping, nothing_kept};
+ghost use Rattle.run_rules.specs.Lines.{Does, DrainsNamed, Finishes, Holds, Leads, numbered};
+ghost use Rattle.turn_rules.specs.Turns.{Alone, Turn, entry_by};
+ghost use Rattle.session_runner.specs.Apart.{GoesApart, IsBehind, IsUnjoined};
+ghost use Rattle.session_runner.specs.Fitting.{AreBuilt, AreFit, IsFit, is_built};
+ghost use Rattle.session_runner.specs.Holding.{IsDriver, kept_in};
+
+use crate::drain::{DrainEnd, drain, prepare};
+use book::{
+    AcquireFault, Book, By, CommitFault, MakeFault, Prepared, RawFault, RawUpdate, TickFault,
+};
+use journal_entries::Why;
+use ot_units::{Name, Units};
+use session_lines::Line;
+use std::alloc::{AllocError, Global};
+
+/// The book of a run, and what each session keeps from a `hold` to its next `finish`, by its number.
+#[derive(Drop)]
+pub(crate) struct Driver {
+    pub book: Book,
+    pub holds: Vec<Option<Prepared>>,
+}
+
+/// Does the lines in order, from line 1 on, and gives the book back. Sessions keep nothing at first.
+pub(crate) fn do_lines(alloc: Global, lines: Vec<Line>, sessions: u32) -> Result<Book, AllocError>
+    requires fit { AreFit [] lines.items }
+    requires built { AreBuilt lines.items }
+    requires numbered { AreBySessions sessions lines.items }
+    requires slow { sum_by moved_by lines.items ≤ clock_end }
+    requires few { length lines.items < 2 ^ 32 - 1 }
+    ensures leads { IfOk result (λ book. Leads 0 Alone (numbered 1 lines.items) nothing_kept [] book.journal) }
+    ensures drivers { IfOk result (λ book. book.drivers ≡ 0) }
+    ensures clock { IfOk result (λ book. clock book.journal ≡ sum_by moved_by lines.items) }
+    ensures closed { IfOk result (λ book. closed book.journal ≡ []) }
+    ensures unjoined { IfOk result (λ book. IsUnjoined book.journal) }
+{
+    let mut driver = Driver::new(alloc, sessions)?;
+    let mut number = 1;
+    for line in lines {
+        driver.do_line(alloc, number, line)?;
+        number += 1;
+    }
+    let Driver { book, .. } = driver;
+    Ok(book)
+}
+
+impl Driver {
+    // The driver of an empty book, of so many sessions that keep nothing.
+    fn new(alloc: Global, sessions: u32) -> Result<Driver, AllocError>
+        ensures book { IfOk result (λ driver. driver.book ≡ record { journal = []; drivers = 0 }) }
+        ensures sessions { IfOk result (λ driver. length driver.holds.items ≡ sessions) }
+        ensures nothing { IfOk result (λ driver. All (λ kept. kept ≡ None) driver.holds.items) }
+    {
+        let book = Book::new(alloc, 0)?;
+        let mut holds = Vec::new(alloc);
+        'filling: while holds.len() < sessions as usize {
+            holds.push(None)?;
+        }
+        Ok(Driver { book, holds })
+    }
+
+    // Does the line of this number.
+    fn do_line(&mut self, alloc: Global, number: u32, line: Line) -> Result<(), AllocError>
+        requires driver { IsDriver self.old }
+        requires fit { IsFit (makings self.old.book.journal) line }
+        requires built { is_built line ≡ true }
+        requires numbered { is_one_of (length self.old.holds.items) (session_of line) ≡ true }
+        requires low { clock self.old.book.journal + moved_by line ≤ clock_end }
+        ensures does { OnOk result (Does 0 Alone number line (kept_in self.old.holds.items) self.old.book.journal self.new.book.journal (kept_in self.new.holds.items)) }
+        ensures driver { OnOk result (IsDriver self.new) }
+        ensures sessions { OnOk result (length self.new.holds.items ≡ length self.old.holds.items) }
+        ensures behind { OnOk result (IsBehind line self.old.book.journal self.new.book.journal) }
+    {
+        let by = By {
+            seat: 0,
+            line: Some(number),
+        };
+        match line {
+            Line::Doc {
+                doc,
+                project,
+                text,
+                v,
+            } => make(&mut self.book, by, &doc, &project, &text, v),
+            Line::Tick { ms, .. } => tick(&mut self.book, by, ms),
+            Line::Raw {
+                session,
+                doc,
+                user,
+                source,
+                dup,
+                track,
+                v,
+                op,
+            } => match self.book.find(&doc) {
+                Some(doc) => {
+                    let raw = RawUpdate {
+                        doc,
+                        user,
+                        source,
+                        dup,
+                        track,
+                        v,
+                        op,
+                    };
+                    send(&mut self.book, by, &raw)
+                }
+                None => self.book.decline(by, session, Why::NoDoc),
+            },
+            Line::Drain { session, doc } => drain_named(
+                alloc,
+                &mut self.book,
+                number,
+                session,
+                &doc,
+            ),
+            Line::Hold { session, doc } => self.hold(alloc, number, session, &doc),
+            Line::Finish { session } => self.finish(number, session),
+            _ => unreachable!(),
+        }
+    }
+
+    // Takes up the first update that waits for a document, decides on it, and keeps that.
+    fn hold(
+        &mut self,
+        alloc: Global,
+        number: u32,
+        session: u32,
+        doc: &Name,
+    ) -> Result<(), AllocError>
+        requires driver { IsDriver self.old }
+        requires session { session < length self.old.holds.items }
+        ensures holds { OnOk result (Holds (entry_by 0 (Some number)) Alone session (kept_in self.old.holds.items session) doc.now (kept_in self.old.holds.items) self.old.book.journal self.new.book.journal (kept_in self.new.holds.items)) }
+        ensures driver { OnOk result (IsDriver self.new) }
+        ensures sessions { OnOk result (length self.new.holds.items ≡ length self.old.holds.items) }
+        ensures apart { OnOk result (GoesApart (next_token self.old.book.journal) self.old.book.journal self.new.book.journal) }
+    {
+        let by = By {
+            seat: 0,
+            line: Some(number),
+        };
+        if is_kept(&self.holds, session) {
+            return self.book.decline(by, session, Why::Holding);
+        }
+        let Some(doc) = self.book.find(doc) else {
+            return self.book.decline(by, session, Why::NoDoc);
+        };
+        match self.book.acquire(by, doc) {
+            Ok(look) => {
+                keep(&mut self.holds, session, prepare(alloc, look)?);
+                Ok(())
+            }
+            Err(AcquireFault::Empty) => self.book.decline(by, session, Why::Empty),
+            Err(AcquireFault::Busy(busy)) => self.book.decline(by, session, Why::Busy(busy)),
+            Err(AcquireFault::Memory) => Err(AllocError),
+            Err(AcquireFault::NoDoc) => unreachable!(),
+        }
+    }
+
+    // Commits what the session keeps, and lets the document go; or says why it can't. It keeps nothing then.
+    fn finish(&mut self, number: u32, session: u32) -> Result<(), AllocError>
+        requires driver { IsDriver self.old }
+        requires session { session < length self.old.holds.items }
+        ensures finishes { OnOk result (Turn Alone (Finishes (entry_by 0 (Some number)) session (kept_in self.old.holds.items session)) self.old.book.journal self.new.book.journal) }
+        ensures gives { OnOk result (kept_in self.new.holds.items ≡ keeping session None (kept_in self.old.holds.items)) }
+        ensures driver { OnOk result (IsDriver self.new) }
+        ensures sessions { OnOk result (length self.new.holds.items ≡ length self.old.holds.items) }
+        ensures apart { OnOk result (GoesApart 0 self.old.book.journal self.new.book.journal) }
+    {
+        let by = By {
+            seat: 0,
+            line: Some(number),
+        };
+        let Some(prepared) = give_up(&mut self.holds, session) else {
+            return self.book.decline(by, session, Why::Nothing);
+        };
+        let (doc, token) = (prepared.look.doc, prepared.look.token);
+        match self.book.commit(by, prepared) {
+            Ok(()) => {
+                let Ok(_) = self.book.release(by, doc, token) else {
+                    unreachable!()
+                };
+                Ok(())
+            }
+            Err(CommitFault::Stale(stale)) => self.book.decline(by, session, Why::Stale(stale)),
+            Err(CommitFault::Memory(_)) => Err(AllocError),
+        }
+    }
+}
+
+// Whether a session keeps something.
+fn is_kept(holds: &Vec<Option<Prepared>>, session: u32) -> bool
+    requires { session < length holds.now.items }
+    ensures { (kept : Option Prepared) → slice_get holds.now.items session ≡ Some kept → result ≡ is_some kept }
+{
+    holds[session as usize].is_some()
+}
+
+// A session keeps this from now on.
+fn keep(holds: &mut Vec<Option<Prepared>>, session: u32, prepared: Prepared)
+    requires { session < length holds.old.items }
+    ensures { holds.new.items ≡ slice_set holds.old.items session (Some prepared) }
+{
+    holds[session as usize] = Some(prepared);
+}
+
+// What a session keeps is given up.
+fn give_up(holds: &mut Vec<Option<Prepared>>, session: u32) -> Option<Prepared>
+    requires { session < length holds.old.items }
+    ensures was { slice_get holds.old.items session ≡ Some result }
+    ensures now { holds.new.items ≡ slice_set holds.old.items session None }
+{
+    holds[session as usize].take()
+}
+
+// Makes a document, whose name is new.
+fn make(
+    book: &mut Book,
+    by: By,
+    name: &Name,
+    project: &Name,
+    first: &Units,
+    base: u64,
+) -> Result<(), AllocError>
+    requires few { length (makings book.old.journal) < 1000 }
+    requires short { length first.now ≤ longest }
+    requires low { base ≤ highest_base }
+    requires new { number_of name.now book.old.journal ≡ None }
+    ensures { OnOk result (book.new ≡ adds book.old by.seat by.line (Made (length (makings book.old.journal)) name.now project.now first.now base ∷ [])) }
+{
+    match book.make_doc(by, name, project, first, base) {
+        Ok(_) => Ok(()),
+        Err(MakeFault::Memory) => Err(AllocError),
+        Err(MakeFault::Exists(_)) => unreachable!(),
+    }
+}
+
+/// The clock goes on, which doesn't come to its end.
+pub(crate) fn tick(book: &mut Book, by: By, ms: u64) -> Result<(), AllocError>
+    requires { clock book.old.journal + ms ≤ clock_end }
+    ensures { OnOk result (book.new ≡ adds book.old by.seat by.line (Ticked ms ∷ [])) }
+{
+    match book.tick(by, ms) {
+        Ok(()) => Ok(()),
+        Err(TickFault::Memory) => Err(AllocError),
+        Err(TickFault::ClockEnd { .. }) => unreachable!(),
+    }
+}
+
+// Sends a raw update to a document that was made.
+fn send(book: &mut Book, by: By, raw: &RawUpdate) -> Result<(), AllocError>
+    requires made { IsMade raw.now.doc book.old.journal }
+    requires source { raw.now.source ≤ 999999 }
+    requires within { IfOk raw.now.op IsRaw }
+    ensures { OnOk result (book.new ≡ adds book.old by.seat by.line (raw_act (clock book.old.journal) raw.now ∷ [])) }
+{
+    match book.send_raw(by, raw) {
+        Ok(_) => Ok(()),
+        Err(RawFault::Memory) => Err(AllocError),
+        Err(RawFault::NoDoc) => unreachable!(),
+    }
+}
+
+// Drains as many updates of the document of a name as wait for it, or says why it can't.
+fn drain_named(
+    alloc: Global,
+    book: &mut Book,
+    number: u32,
+    session: u32,
+    name: &Name,
+) -> Result<(), AllocError>
+    ensures drains { OnOk result (DrainsNamed (entry_by 0 (Some number)) Alone session (number_of name.now book.old.journal) book.old.journal book.new.journal) }
+    ensures apart { OnOk result (GoesApart (next_token book.old.journal) book.old.journal book.new.journal) }
+    ensures drivers { OnOk result (book.new.drivers ≡ book.old.drivers) }
+{
+    let by = By {
+        seat: 0,
+        line: Some(number),
+    };
+    let Some(doc) = book.find(name) else {
+        return book.decline(by, session, Why::NoDoc);
+    };
+    let most = book.waiting(doc);
+    if most == 0 {
+        return book.decline(by, session, Why::Empty);
+    }
+    match drain(alloc, book, by, doc, most) {
+        DrainEnd::Done { .. } => Ok(()),
+        DrainEnd::Busy { busy, .. } => book.decline(by, session, Why::Busy(busy)),
+        DrainEnd::Memory { .. } => Err(AllocError),
+    }
+}
