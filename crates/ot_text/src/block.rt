@@ -1,7 +1,8 @@
-//! A block: some chunks that several texts may share. It never changes.
+//! A block: some chunks that several texts may share. It changes only where one text alone has it.
 
-ghost use Rattle.std.specs.Prelude.{◌≡◌, ◌++◌, length, IfOk, OnOk};
-ghost use Rattle.ot_text.specs.Lists.{joined};
+ghost use Rattle.std.specs.Prelude.{◌≡◌, ◌≤◌, ◌<◌, ◌++◌, length, slice_set, IfOk, OnOk, OnErr, MatchBool};
+ghost use Rattle.ot_units.specs.Text.{put_at};
+ghost use Rattle.ot_text.specs.Lists.{joined, list_at};
 
 use crate::chunk::Chunk;
 use std::alloc::{AllocError, Global};
@@ -70,6 +71,34 @@ impl Block {
         ensures { result ≡ length (joined self.now) }
     {
         self.len
+    }
+}
+
+impl Block {
+    /// Puts `other` in before unit number `at` of a chunk where no other text shares the block and the
+    /// chunk, and says whether it did.
+    pub(crate) fn put_alone(
+        &mut self,
+        chunk: usize,
+        at: usize,
+        other: &[u16],
+    ) -> Result<bool, AllocError>
+        requires chunk { chunk < length self.old }
+        requires unit { at ≤ length (list_at self.old chunk) }
+        ensures done { IfOk result (λ done. MatchBool done (self.new ≡ slice_set self.old chunk (put_at (list_at self.old chunk) at other.now)) (self.new ≡ self.old)) }
+        ensures err { OnErr result (self.new ≡ self.old) }
+    {
+        if other.len() > usize::MAX - self.len {
+            return Ok(false);
+        }
+        let Some(chunks) = Arc::get_mut(&mut self.chunks) else {
+            return Ok(false);
+        };
+        if !chunks[chunk].put_alone(at, other)? {
+            return Ok(false);
+        }
+        self.len += other.len();
+        Ok(true)
     }
 }
 

@@ -1,6 +1,7 @@
-//! A chunk: some units that several texts may share. It never changes.
+//! A chunk: some units that several texts may share. It changes only where one text alone has it.
 
-ghost use Rattle.std.specs.Prelude.{◌≡◌, length, IfOk};
+ghost use Rattle.std.specs.Prelude.{◌≡◌, ◌≤◌, length, IfOk, OnErr, MatchBool};
+ghost use Rattle.ot_units.specs.Text.{put_at};
 
 use std::alloc::{AllocError, Global};
 use std::marker::Model;
@@ -57,5 +58,20 @@ impl Chunk {
         ensures { result ≡ length self.now }
     {
         self.len
+    }
+
+    /// Puts `other` in before unit number `at` where no other text shares the chunk, and says whether it did.
+    pub(crate) fn put_alone(&mut self, at: usize, other: &[u16]) -> Result<bool, AllocError>
+        requires { at ≤ length self.old }
+        ensures done { IfOk result (λ done. MatchBool done (self.new ≡ put_at self.old at other.now) (self.new ≡ self.old)) }
+        ensures err { OnErr result (self.new ≡ self.old) }
+    {
+        let Some(units) = Arc::get_mut(&mut self.units) else {
+            return Ok(false);
+        };
+        units.extend_from_slice(other)?;
+        units[at..].rotate_right(other.len());
+        self.len = units.len();
+        Ok(true)
     }
 }

@@ -1,14 +1,16 @@
 //! What an insert or a removal makes of the chunks of a text.
 
-ghost use Rattle.std.specs.Prelude.{◌≡◌, ◌≤◌, ◌<◌, ◌+◌, ◌-◌, ◌^◌, length, vec_len, vec_capacity, IfOk};
+ghost use Rattle.std.specs.Prelude.{◌≡◌, ◌≤◌, ◌<◌, ◌+◌, ◌-◌, ◌^◌, length, vec_len, vec_capacity, IfOk, OnOk, OnErr};
 ghost use Rattle.ot_units.specs.Text.{put_at, cut_at};
 ghost use Rattle.ot_text.specs.Lists.{joined, filled, patched};
 ghost use Rattle.ot_text.specs.Chunks.{AreChunks, AreBlocks, IsChunkPatch};
 ghost use Rattle.ot_text.specs.Blocks.{IsBlockPatch};
 
+use crate::alone::put_alone;
 use crate::block::Block;
 use crate::chunk::Chunk;
 use crate::hole::{Hole, cut_up, put_together, take_next, take_previous};
+use crate::list::replace;
 use crate::patch::{BlockPatch, block_patch};
 use crate::place::{chunk_at, find};
 use std::alloc::{AllocError, Global};
@@ -100,12 +102,25 @@ fn patch_hole(alloc: Global, blocks: &mut Vec<Block>, hole: Hole) -> Result<Bloc
     Ok(patch)
 }
 
+/// Puts `other` in before unit number `at`. Where memory is wanting, nothing changes.
+pub(crate) fn put_units(blocks: &mut Vec<Block>, at: usize, other: &[u16]) -> Result<(), AllocError>
+    requires few { length (joined blocks.old.items) < 2 ^ 64 }
+    requires blocks { AreBlocks blocks.old.items }
+    requires inside { at ≤ length (joined (joined blocks.old.items)) }
+    ensures puts { OnOk result (joined (joined blocks.new.items) ≡ put_at (joined (joined blocks.old.items)) at other.now) }
+    ensures blocks { OnOk result (AreBlocks blocks.new.items) }
+    ensures err { OnErr result (blocks.new.items ≡ blocks.old.items) }
+{
+    if put_alone(blocks, at, other)? {
+        return Ok(());
+    }
+    let BlockPatch { from, to, mut new } = put_patch(blocks, at, other)?;
+    replace(blocks, from, to, &mut new);
+    Ok(())
+}
+
 /// The patch that puts `other` in before unit number `at`.
-pub(crate) fn put_patch(
-    blocks: &mut Vec<Block>,
-    at: usize,
-    other: &[u16],
-) -> Result<BlockPatch, AllocError>
+fn put_patch(blocks: &mut Vec<Block>, at: usize, other: &[u16]) -> Result<BlockPatch, AllocError>
     requires few { length (joined blocks.old.items) < 2 ^ 64 }
     requires blocks { AreBlocks blocks.old.items }
     requires inside { at ≤ length (joined (joined blocks.old.items)) }

@@ -13,7 +13,7 @@ use std::alloc::{AllocError, Global};
 const SMALL: usize = 512;
 
 /// The most units of a chunk.
-const ROOM: usize = 1024;
+pub(crate) const ROOM: usize = 1024;
 
 /// The chunks from number `from` up to `to` become these units.
 #[derive(Drop)]

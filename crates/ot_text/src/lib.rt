@@ -8,6 +8,7 @@ ghost use Rattle.ot_text.specs.Part.{part_within};
 use ot_units::Units;
 use std::alloc::{AllocError, Global};
 
+mod alone;
 mod block;
 mod chunk;
 mod edit;

@@ -8,7 +8,7 @@ ghost use Rattle.ot_text.specs.Texts.{Seen, IsKept};
 
 use crate::Text;
 use crate::block::Block;
-use crate::edit::{cut_patch, put_patch};
+use crate::edit::{cut_patch, put_units};
 use crate::list::replace;
 use crate::parts::stands_in;
 use crate::patch::BlockPatch;
@@ -26,7 +26,7 @@ pub(crate) struct Cut {
     new: Vec<Block>,
 }
 
-/// A text that is edited. An edit makes new chunks; those that copies of the text share stay as they are.
+/// A text that is edited. The chunks that its copies share stay as they are: an edit there makes new ones.
 #[derive(Debug, Drop)]
 pub struct OpenText {
     blocks: Vec<Block>,
@@ -91,9 +91,7 @@ impl OpenText {
         if other.len() > usize::MAX - self.len {
             return Err(AllocError);
         }
-        let patch = put_patch(&mut self.blocks, at, other)?;
-        let BlockPatch { from, to, mut new } = patch;
-        replace(&mut self.blocks, from, to, &mut new);
+        put_units(&mut self.blocks, at, other)?;
         self.len += other.len();
         Ok(())
     }

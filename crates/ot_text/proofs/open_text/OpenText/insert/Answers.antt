@@ -6,19 +6,18 @@ use Rattle.ot_text.proofs.Edits.{put_length}
 use Rattle.ot_text.proofs.Splices.{few_below}
 use Rattle.ot_text.proofs.open_text.OpenText.insert.Goals as goal
 
-pub put_patch-requires-clause-few : goal.put_patch-requires-clause-few
-put_patch-requires-clause-few c = few_below c.self.inside.blocks.items c.self.inside.len _ c.self.invariant.kept (omega (arith, c.self.ranges))
+pub put_units-requires-clause-few : goal.put_units-requires-clause-few
+put_units-requires-clause-few c = few_below c.self.inside.blocks.items c.self.inside.len _ c.self.invariant.kept (omega (arith, c.self.ranges))
 
 pub invariant_of-self-2 : goal.invariant_of-self-2
 invariant_of-self-2 c =
-    let items = rw c.in_ok-patch.ensures.same at c.replace.ensures in
-    let is : joined (joined c.replace.new.blocks.items) ≡ put_at (joined (joined c.self.inside.blocks.items)) c.args.at c.args.other.now = ap (λ x. joined (joined x)) items ∙ c.in_ok-patch.ensures.puts in
+    let is = c.in_ok-put_units.ensures.puts in
     let old = c.self.invariant.kept in
     let inside : c.args.at ≤ length (joined (joined c.self.inside.blocks.items)) = rw (← c.self.view_is) at c.requires.in_text in
     let l = put_length (joined (joined c.self.inside.blocks.items)) c.args.at c.args.other.now inside in
     record {
       kept = record {
-        blocks = rw items c.in_ok-patch.ensures.patch.blocks;
+        blocks = c.in_ok-put_units.ensures.blocks;
         text = rw is (put_keeps _ _ _ old.text c.requires.units);
         counted = omega (arith, ap length is, l, old.counted);
       };
