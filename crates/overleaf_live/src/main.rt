@@ -5,6 +5,7 @@ use session_runner::run_alone;
 use source_sink::{StdSink, StdSource};
 use std::alloc::{AllocError, Global};
 use std::env;
+use std::io::ErrorKind;
 use std::process::ExitCode;
 
 /// Where the words themselves find no memory.
@@ -14,6 +15,7 @@ fn main(rt: HostRuntime) -> ExitCode {
     let alloc = rt.alloc();
     let words = match env::args(&rt) {
         Ok(args) => words_behind(alloc, args),
+        Err(fault) if fault.kind() == ErrorKind::OutOfMemory => Err(AllocError),
         // A word that is no text: no form of the program has one.
         Err(_) => Ok(Vec::new(alloc)),
     };

@@ -3,6 +3,7 @@
 use crate::run_alone;
 use source_sink::{ByteSink, ByteSource, INPUT_LIMIT};
 use std::alloc::Global;
+use std::process::Abort;
 use std::test::Fail;
 
 // The text that lines spell, with `'` for a quotation mark.
@@ -53,13 +54,13 @@ fn run_with(
 
 // A run of these words over an input of these lines has this status and writes these lines.
 fn check(
-    rt: &HostRuntime,
+    rt: &impl Abort,
+    alloc: Global,
     words: &str,
     status: u8,
     input: &[&str],
     want: &[&str],
 ) -> Result<(), Fail> {
-    let alloc = rt.alloc();
     let input = spelled(alloc, input)?;
     let want = spelled(alloc, want)?;
     let run = run_with(alloc, words, input.as_str().as_bytes(), &[], &[])?;
@@ -73,6 +74,7 @@ fn runs_the_plain_rows(rt: HostRuntime) -> Result<(), Fail> {
     // empty input
     check(
         &rt,
+        rt.alloc(),
         "run",
         0,
         &[],
@@ -84,6 +86,7 @@ fn runs_the_plain_rows(rt: HostRuntime) -> Result<(), Fail> {
     // plainest run
     check(
         &rt,
+        rt.alloc(),
         "run",
         0,
         &[
@@ -104,6 +107,7 @@ fn runs_the_plain_rows(rt: HostRuntime) -> Result<(), Fail> {
     // tie
     check(
         &rt,
+        rt.alloc(),
         "run",
         0,
         &[
@@ -129,6 +133,7 @@ fn runs_the_plain_rows(rt: HostRuntime) -> Result<(), Fail> {
     // a document that was not made
     check(
         &rt,
+        rt.alloc(),
         "run",
         0,
         &[
@@ -151,6 +156,7 @@ fn takes_a_document_over(rt: HostRuntime) -> Result<(), Fail> {
     // takeover
     check(
         &rt,
+        rt.alloc(),
         "run",
         0,
         &[
@@ -188,6 +194,7 @@ fn tracks_and_refuses(rt: HostRuntime) -> Result<(), Fail> {
     // tracked
     check(
         &rt,
+        rt.alloc(),
         "run",
         0,
         &[
@@ -213,6 +220,7 @@ fn tracks_and_refuses(rt: HostRuntime) -> Result<(), Fail> {
     // future
     check(
         &rt,
+        rt.alloc(),
         "run",
         0,
         &[
@@ -238,6 +246,7 @@ fn tracks_and_refuses(rt: HostRuntime) -> Result<(), Fail> {
     // duplicate
     check(
         &rt,
+        rt.alloc(),
         "run",
         0,
         &[
@@ -263,6 +272,7 @@ fn tracks_and_refuses(rt: HostRuntime) -> Result<(), Fail> {
     // an operation that is none
     check(
         &rt,
+        rt.alloc(),
         "run",
         0,
         &[
@@ -285,6 +295,7 @@ fn says_why_it_does_nothing(rt: HostRuntime) -> Result<(), Fail> {
     // Holding and finishing nothing, draining nothing, and a lock that others run into
     check(
         &rt,
+        rt.alloc(),
         "run",
         0,
         &[
@@ -326,6 +337,7 @@ fn drains_what_waits(rt: HostRuntime) -> Result<(), Fail> {
     // A line drains both that wait, in the order in which they were sent
     check(
         &rt,
+        rt.alloc(),
         "run",
         0,
         &[
@@ -357,6 +369,7 @@ fn names_faulty_lines_and_words(rt: HostRuntime) -> Result<(), Fail> {
     // a line that is cut
     check(
         &rt,
+        rt.alloc(),
         "run",
         3,
         &[
@@ -368,6 +381,7 @@ fn names_faulty_lines_and_words(rt: HostRuntime) -> Result<(), Fail> {
     // a field too many
     check(
         &rt,
+        rt.alloc(),
         "run",
         3,
         &[
@@ -379,6 +393,7 @@ fn names_faulty_lines_and_words(rt: HostRuntime) -> Result<(), Fail> {
     // an unknown command
     check(
         &rt,
+        rt.alloc(),
         "run",
         3,
         &[
@@ -390,6 +405,7 @@ fn names_faulty_lines_and_words(rt: HostRuntime) -> Result<(), Fail> {
     // a command that is not built
     check(
         &rt,
+        rt.alloc(),
         "run",
         3,
         &[
@@ -401,6 +417,7 @@ fn names_faulty_lines_and_words(rt: HostRuntime) -> Result<(), Fail> {
     // no words
     check(
         &rt,
+        rt.alloc(),
         "",
         2,
         &[
