@@ -17,11 +17,7 @@ mod keeping;
 mod legal;
 mod locks;
 mod mail;
-#[cfg(test)]
-mod rows;
 mod sent;
-#[cfg(test)]
-mod tests;
 mod texts;
 
 pub use allowed_documents::is_named;

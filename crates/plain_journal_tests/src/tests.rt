@@ -3,11 +3,11 @@
 ghost use Rattle.journal_rules.specs.Legal.{IsLegal};
 
 use crate::rows::{KEEPER, LEAVE, PLAINEST, RESEND, ROOM, SESSION, TAKEOVER, entry, journal, op};
-use crate::*;
 use journal_entries::{Brief, Entry, Outcome};
 use journal_rules::ClientState;
 use ot_op::Op;
 use ot_units::Name;
+use plain_journal::*;
 use std::alloc::Global;
 use std::test::Fail;
 
