@@ -35,9 +35,9 @@ pub record Moves (client : ℕ) (there : Option Membership) (old new : Roomed) :
 abbrev pub Stay : Roomed → Roomed → Type 0
 Stay old new = (client : ℕ) → member client new ≡ member client old
 
--- a client joins a room, with an empty outbox
-abbrev pub Joins : ℕ → ℕ → ℕ → Roomed → Roomed → Type 0
-Joins client doc source old new = (spare : ℕ) × Moves client (Some (record { doc = doc; source = source; outbox = []; spare = spare })) old new
+-- a client joins a room, with an empty outbox that has room for so many places
+abbrev pub Joins : ℕ → ℕ → ℕ → ℕ → Roomed → Roomed → Type 0
+Joins client doc source room old new = (spare : ℕ) × (room ≤ spare) × Moves client (Some (record { doc = doc; source = source; outbox = []; spare = spare })) old new
 
 -- the same member, with no less room
 pub record IsRoomier (old new : Membership) : Type 0 where

@@ -69,9 +69,25 @@ impl Rooms {
     /// Puts a client into a document's room, under a source, with an empty outbox. One that is in a
     /// room leaves it. The only error is want of memory, and all are where they were then.
     pub fn join(&mut self, client: u32, doc: u32, source: u64) -> Result<(), AllocError>
-        ensures joined { OnOk result (Joins client doc source self.old self.new) }
+        ensures joined { OnOk result (Joins client doc source 0 self.old self.new) }
         ensures kept { OnErr result (Stay self.old self.new) }
     {
+        self.join_with_room(client, doc, source, 0)
+    }
+
+    /// [`Rooms::join`] with an outbox that has room for `room` places.
+    pub fn join_with_room(
+        &mut self,
+        client: u32,
+        doc: u32,
+        source: u64,
+        room: u64,
+    ) -> Result<(), AllocError>
+        ensures joined { OnOk result (Joins client doc source room self.old self.new) }
+        ensures kept { OnErr result (Stay self.old self.new) }
+    {
+        let mut outbox = Queue::new(self.alloc);
+        outbox.reserve_many(room as usize)?;
         self.members.reserve(1)?;
         reserve_key(&mut self.keys, client)?;
         vacate(&mut self.keys, &mut self.members, client);
@@ -79,7 +95,7 @@ impl Rooms {
             client,
             doc,
             source,
-            outbox: Queue::new(self.alloc),
+            outbox,
         };
         let key = self.members.insert_reserved(member);
         self.keys[client as usize] = Some(key);
