@@ -9,11 +9,11 @@ use Rattle.expiring_lock.specs.Locks.{LockState}
 use Rattle.journal_entries.specs.Journals.{Journaled, entries, spare}
 use Rattle.journal_entries.specs.declared.update.Update.{Update}
 use Rattle.journal_entries.specs.declared.act.Act.{Act}
-use Rattle.journal_entries.specs.declared.act.Act.TheVariants.{Made, Ticked, Sent, Malformed, Declined, Closed}
+use Rattle.journal_entries.specs.declared.act.Act.TheVariants.{Made, Ticked, Joined as JoinedAct, Edited, Sent, Malformed, Got, Left as LeftAct, Declined, Closed}
 use Rattle.journal_entries.specs.declared.act.Entry.{Entry}
 use Rattle.journal_rules.specs.Documents.{Making, is_named, making_of, makings, number_in, number_of, is_in, waiting, update_of}
 use Rattle.journal_rules.specs.Locks.{acquiring_of, acquirings, clock, ticked}
-use Rattle.journal_rules.specs.Legal.{IsAllowed, IsRaw, clock_end, closed, closed_by}
+use Rattle.journal_rules.specs.Legal.{IsAllowed, clock_end, closed, closed_by}
 use Rattle.journal_rules.proofs.Pushing.{acquirings-push, acquirings-none, makings-push, makings-none, clock-push, clock-none, closed-push, closed-none}
 use Rattle.journal_laws.proofs.Unmade.{unmade_waits}
 use Rattle.book.specs.declared.document.Document.{Document}
@@ -21,7 +21,7 @@ use Rattle.book.specs.Standing.{AreDocuments, IsKeptAs, IsNew, IsQueued, Turns, 
 use Rattle.book.specs.Shown.{IsBook, names_in, driver_count, unclosed}
 use Rattle.book.proofs.Lists.{same_item}
 use Rattle.book.proofs.Owed.{owed_set, owed_push, closing, open_counts, none_closed}
-use Rattle.book.proofs.Keeping.{Passes, IsSmallAct, kept_quiet, kept_set, kept_made, kept_none, here_sent}
+use Rattle.book.proofs.Keeping.{Passes, kept_quiet, kept_set, kept_made, kept_none, here_sent}
 
 abbrev pub name_by : Making → List ℕ
 name_by m = m.name
@@ -67,22 +67,26 @@ IsQuiet (Ticked ms) = ⊤
 IsQuiet (Malformed doc fault) = ⊤
 IsQuiet (Declined session why) = ⊤
 IsQuiet (Closed driver) = ⊤
+IsQuiet (JoinedAct client doc user track since source v) = ⊤
+IsQuiet (Edited client comp) = ⊤
+IsQuiet (Got client brief) = ⊤
+IsQuiet (LeftAct client) = ⊤
 IsQuiet _ = ⊥
 
 record QuietFacts (seat : ℕ) (a : Act) : Type 0 where
   passes : (d : ℕ) → Passes d a
   makes : making_of a ≡ []
-  small : IsSmallAct a
   takes : acquiring_of seat a ≡ []
 
-pub unsent : (o : Option Update) → o ≡ None → (u : Update) → o ≡ Some u → IsRaw u.op
-unsent o none u is = let f : None ≡ Some u = sym none ∙ is in absurd (cc)
-
 quiet_facts : (seat : ℕ) (a : Act) → IsQuiet a → QuietFacts seat a
-quiet_facts seat (Ticked ms) q = record { passes = λ d. tt; makes = refl; small = unsent None refl; takes = refl }
-quiet_facts seat (Malformed doc fault) q = record { passes = λ d. tt; makes = refl; small = unsent None refl; takes = refl }
-quiet_facts seat (Declined session why) q = record { passes = λ d. tt; makes = refl; small = unsent None refl; takes = refl }
-quiet_facts seat (Closed driver) q = record { passes = λ d. tt; makes = refl; small = unsent None refl; takes = refl }
+quiet_facts seat (Ticked ms) q = record { passes = λ d. tt; makes = refl; takes = refl }
+quiet_facts seat (Malformed doc fault) q = record { passes = λ d. tt; makes = refl; takes = refl }
+quiet_facts seat (Declined session why) q = record { passes = λ d. tt; makes = refl; takes = refl }
+quiet_facts seat (Closed driver) q = record { passes = λ d. tt; makes = refl; takes = refl }
+quiet_facts seat (JoinedAct client doc user track since source v) q = record { passes = λ d. tt; makes = refl; takes = refl }
+quiet_facts seat (Edited client comp) q = record { passes = λ d. tt; makes = refl; takes = refl }
+quiet_facts seat (Got client brief) q = record { passes = λ d. tt; makes = refl; takes = refl }
+quiet_facts seat (LeftAct client) q = record { passes = λ d. tt; makes = refl; takes = refl }
 quiet_facts seat _ q = absurd q
 
 pub quiet_book : {names : List (List ℕ)} (before mid after : Journaled) (documents : List Document) (now now' tokens owed drivers sum : ℕ) (e : Entry)
@@ -92,7 +96,7 @@ quiet_book {names} before mid after documents now now' tokens owed drivers sum e
     let f = quiet_facts e.seat e.act quiet in
     let none = ap length f.takes in
     push_book before after documents documents now now' tokens tokens owed owed drivers e was (no_name names names e refl f.makes) (more ∙ ap (λ l. l ++ e ∷ []) same)
-    (kept_quiet documents (entries before) e may f.passes f.makes f.small was.stands) now_is low (omega (arith, none))
+    (kept_quiet documents (entries before) e may f.passes f.makes was.stands) now_is low (omega (arith, none))
     (subst (λ (l : List ℕ). owed_for documents + unclosed (driver_count drivers) l ≤ owed) (sym (ap (λ l. closed (entries before) ++ l) unclosing ∙ append-nil (closed (entries before)))) was.counted)
     (omega (arith, sum_is, enough, less))
 
@@ -106,7 +110,7 @@ closed_book {names} before after documents now tokens owed drivers driver e was 
     let counted = was.counted in
     let room = was.room in
     push_book before after documents documents now now tokens tokens owed (owed - 1) drivers e was (no_name names names e refl f.makes) more
-    (kept_quiet documents (entries before) e (subst (IsAllowed (entries before) e.seat) (sym is) not_yet) f.passes f.makes f.small was.stands) (ap (λ a. ticked a now) (sym is)) was.now_low (omega (arith, none))
+    (kept_quiet documents (entries before) e (subst (IsAllowed (entries before) e.seat) (sym is) not_yet) f.passes f.makes was.stands) (ap (λ a. ticked a now) (sym is)) was.now_low (omega (arith, none))
     (subst (λ (a : Act). owed_for documents + unclosed (driver_count drivers) (closed (entries before) ++ closed_by a) ≤ owed - 1) (sym is) (omega (arith, fewer, counted)))
     (omega (arith, room, less))
 
@@ -136,13 +140,12 @@ kept_owes documents documents' doc t =
 
 pub sent_book : {names names' : List (List ℕ)} (before mid after : Journaled) (documents documents' : List Document) (now tokens owed drivers sum ticket : ℕ) (u : Update) (e : Entry)
     → IsBook before names documents now tokens owed drivers → entries mid ≡ entries before → sum ≡ owed + 2 → sum ≤ spare mid → entries after ≡ entries mid ++ e ∷ [] → spare after + 1 ≡ spare mid
-    → names' ≡ names → e.act ≡ Sent u → IsAllowed (entries before) e.seat (Sent u) → IsRaw u.op → ticket ≡ length (entries mid) → Turns u.doc (IsQueued ticket) documents documents' → IsBook after names' documents' now tokens (sum - 1) drivers
-sent_book {names} {names'} before mid after documents documents' now tokens owed drivers sum ticket u e was same sum_is enough more less called is may within ticket_is t =
+    → names' ≡ names → e.act ≡ Sent u → IsAllowed (entries before) e.seat (Sent u) → ticket ≡ length (entries mid) → Turns u.doc (IsQueued ticket) documents documents' → IsBook after names' documents' now tokens (sum - 1) drivers
+sent_book {names} {names'} before mid after documents documents' now tokens owed drivers sum ticket u e was same sum_is enough more less called is may ticket_is t =
     let at : ticket ≡ length (entries before) = ticket_is ∙ ap length same in
     let turn : Turns u.doc (IsQueued (length (entries before))) documents documents' = subst (λ n. Turns u.doc (IsQueued n) documents documents') at t in
     let here = here_sent u.doc turn.was turn.now (entries before) e was.stands.legal (was.stands.each u.doc turn.was turn.at) u is refl turn.is in
-    let stands = kept_set documents u.doc turn.was turn.now (entries before) e turn.at (subst (IsAllowed (entries before) e.seat) (sym is) may) (λ d apart. subst (Passes d) (sym is) apart) (ap making_of is)
-    (λ v sent. (let one : Some u ≡ Some v = sym (ap update_of is) ∙ sent in subst (λ (x : Update). IsRaw x.op) (same_item u v one) within)) here was.stands in
+    let stands = kept_set documents u.doc turn.was turn.now (entries before) e turn.at (subst (IsAllowed (entries before) e.seat) (sym is) may) (λ d apart. subst (Passes d) (sym is) apart) (ap making_of is) here was.stands in
     let none = ap (λ a. length (acquiring_of e.seat a)) is in
     let owes = queued_owes documents documents' u.doc ticket t in
     let counted = was.counted in

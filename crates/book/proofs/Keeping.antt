@@ -7,7 +7,7 @@ use Rattle.std.proofs.lemmas.Bool.Decides.{eqb_tells}
 use Rattle.journal_entries.specs.declared.update.Update.{Update}
 use Rattle.journal_entries.specs.declared.update.Outcome.{Outcome}
 use Rattle.journal_entries.specs.declared.act.Act.{Act}
-use Rattle.journal_entries.specs.declared.act.Act.TheVariants.{Made, Ticked, Sent, Malformed, Acquired, Committed, Released, Declined, Closed}
+use Rattle.journal_entries.specs.declared.act.Act.TheVariants.{Made, Ticked, Joined as JoinedAct, Edited, Sent, Malformed, Got, Left as LeftAct, Acquired, Committed, Released, Declined, Closed}
 use Rattle.journal_entries.specs.declared.act.Entry.{Entry}
 use Rattle.journal_rules.specs.Documents.{IsMade, Making, making_of, makings, item_of, items_by, applied_list, sends, ticket_of, waiting, update_of, update_at}
 use Rattle.journal_rules.specs.Keeping.{cached_by, cached}
@@ -26,7 +26,7 @@ use Rattle.book.proofs.Lists.{set_elsewhere, set_here}
 use Rattle.book.proofs.Standing.{same_self, moved, made_new, applied_document}
 use Rattle.book.proofs.Tokens.{lock_still, lock_push, lock_acquired, lock_released, lock_elsewhere}
 
--- an act of this request that says nothing of a document
+-- an act that says nothing of a document
 abbrev pub Passes : ℕ → Act → Type 0
 Passes d (Made doc name project first base) = doc ≢ d
 Passes d (Ticked ms) = ⊤
@@ -36,6 +36,10 @@ Passes d (Acquired doc token until) = doc ≢ d
 Passes d (Committed doc token ticket outcome) = doc ≢ d
 Passes d (Released doc token) = doc ≢ d
 Passes d (Declined session why) = ⊤
+Passes d (JoinedAct client doc user track since source v) = ⊤
+Passes d (Edited client comp) = ⊤
+Passes d (Got client brief) = ⊤
+Passes d (LeftAct client) = ⊤
 Passes d (Closed driver) = ⊤
 Passes d _ = ⊥
 
@@ -83,13 +87,17 @@ facts d j seat (Released doc token) legal may apart made = record {
 }
 facts d j seat (Declined session why) legal may apart made = record { makes = none_made d j; items = refl; locks = lock_still d j seat (Declined session why) refl refl; caches = refl }
 facts d j seat (Closed driver) legal may apart made = record { makes = none_made d j; items = refl; locks = lock_still d j seat (Closed driver) refl refl; caches = refl }
+facts d j seat (JoinedAct client doc user track since source v) legal may apart made = record { makes = none_made d j; items = refl; locks = lock_still d j seat (JoinedAct client doc user track since source v) refl refl; caches = refl }
+facts d j seat (Edited client comp) legal may apart made = record { makes = none_made d j; items = refl; locks = lock_still d j seat (Edited client comp) refl refl; caches = refl }
+facts d j seat (Got client brief) legal may apart made = record { makes = none_made d j; items = refl; locks = lock_still d j seat (Got client brief) refl refl; caches = refl }
+facts d j seat (LeftAct client) legal may apart made = record { makes = none_made d j; items = refl; locks = lock_still d j seat (LeftAct client) refl refl; caches = refl }
 facts d j seat _ legal may apart made = absurd apart
 
 -- what waits after an entry that commits nothing
-waits_none : (d : ℕ) (j : List Entry) (e : Entry) → IsLegal j → ticket_of e.act ≡ [] → sends d e.act ≡ false → waiting d (j ++ e ∷ []) ≡ waiting d j
+pub waits_none : (d : ℕ) (j : List Entry) (e : Entry) → IsLegal j → ticket_of e.act ≡ [] → sends d e.act ≡ false → waiting d (j ++ e ∷ []) ≡ waiting d j
 waits_none d j e legal none unsent = waiting-more d j e (committed_below j legal) none ∙ ap (λ b. waiting d j ++ one_if b (length j)) unsent ∙ append-nil (waiting d j)
 
-waits_on : (d : ℕ) (j : List Entry) (e : Entry) (a : Act) → e.act ≡ a → IsLegal j → IsAllowed j e.seat a → Passes d a → waiting d (j ++ e ∷ []) ≡ waiting d j
+pub waits_on : (d : ℕ) (j : List Entry) (e : Entry) (a : Act) → e.act ≡ a → IsLegal j → IsAllowed j e.seat a → Passes d a → waiting d (j ++ e ∷ []) ≡ waiting d j
 waits_on d j e (Committed doc token ticket outcome) is legal may apart = waiting-committed_other d doc j e ticket may.rest (λ h. apart (sym h)) (ap (sends d) is) (ap ticket_of is) may.first
 waits_on d j e (Sent u) is legal may apart = waits_none d j e legal (ap ticket_of is) (ap (sends d) is ∙ ne_eqb u.doc d apart)
 waits_on d j e (Made doc name project first base) is legal may apart = waits_none d j e legal (ap ticket_of is) (ap (sends d) is)
@@ -99,6 +107,10 @@ waits_on d j e (Acquired doc token until) is legal may apart = waits_none d j e 
 waits_on d j e (Released doc token) is legal may apart = waits_none d j e legal (ap ticket_of is) (ap (sends d) is)
 waits_on d j e (Declined session why) is legal may apart = waits_none d j e legal (ap ticket_of is) (ap (sends d) is)
 waits_on d j e (Closed driver) is legal may apart = waits_none d j e legal (ap ticket_of is) (ap (sends d) is)
+waits_on d j e (JoinedAct client doc user track since source v) is legal may apart = waits_none d j e legal (ap ticket_of is) (ap (sends d) is)
+waits_on d j e (Edited client comp) is legal may apart = waits_none d j e legal (ap ticket_of is) (ap (sends d) is)
+waits_on d j e (Got client brief) is legal may apart = waits_none d j e legal (ap ticket_of is) (ap (sends d) is)
+waits_on d j e (LeftAct client) is legal may apart = waits_none d j e legal (ap ticket_of is) (ap (sends d) is)
 waits_on d j e _ is legal may apart = absurd apart
 
 -- a document of which an entry says nothing
@@ -114,36 +126,24 @@ passed d x j e legal may apart made was =
     (cached-push d j e ∙ f.caches ∙ was.cached_is) was
 
 -- ---- all documents
-abbrev pub IsSmallAct : Act → Type 0
-IsSmallAct a = (u : Update) → update_of a ≡ Some u → IsRaw u.op
-
-raw_on : (j : List Entry) (e : Entry) → IsSmallAct e.act → ((t : ℕ) (u : Update) → update_at j t ≡ Some u → IsRaw u.op) → (t : ℕ) (u : Update) → update_at (j ++ e ∷ []) t ≡ Some u → IsRaw u.op
-raw_on j e small was t u is = by (update_new j e t u is)
-  where
-    by : (update_at j t ≡ Some u) ⊎ ((t ≡ length j) × (update_of e.act ≡ Some u)) → IsRaw u.op
-    by (inl old) = was t u old
-    by (inr new) = small u new.1
-
 same_count : (j : List Entry) (e : Entry) → making_of e.act ≡ [] → length (makings (j ++ e ∷ [])) ≡ length (makings j)
 same_count j e no_making = ap length (makings-push j e ∙ ap (λ l. makings j ++ l) no_making ∙ append-nil (makings j))
 
-pub kept_quiet : (documents : List Document) (j : List Entry) (e : Entry) → IsAllowed j e.seat e.act → ((d : ℕ) → Passes d e.act) → making_of e.act ≡ [] → IsSmallAct e.act → AreDocuments documents j → AreDocuments documents (j ++ e ∷ [])
-kept_quiet documents j e may apart no_making small were = record {
+pub kept_quiet : (documents : List Document) (j : List Entry) (e : Entry) → IsAllowed j e.seat e.act → ((d : ℕ) → Passes d e.act) → making_of e.act ≡ [] → AreDocuments documents j → AreDocuments documents (j ++ e ∷ [])
+kept_quiet documents j e may apart no_making were = record {
   legal = legal_push j e were.legal may;
   few = were.few;
   count = were.count ∙ sym (same_count j e no_making);
   each = λ d x at. (let lt = slice_get_within documents d x at in let c = were.count in passed d x j e were.legal may (apart d) (omega (arith, lt, c)) (were.each d x at));
-  raw = raw_on j e small were.raw;
 }
 
-pub kept_set : (documents : List Document) (doc : ℕ) (was now : Document) (j : List Entry) (e : Entry) → slice_get documents doc ≡ Some was → IsAllowed j e.seat e.act → ((d : ℕ) → doc ≢ d → Passes d e.act) → making_of e.act ≡ [] → IsSmallAct e.act
+pub kept_set : (documents : List Document) (doc : ℕ) (was now : Document) (j : List Entry) (e : Entry) → slice_get documents doc ≡ Some was → IsAllowed j e.seat e.act → ((d : ℕ) → doc ≢ d → Passes d e.act) → making_of e.act ≡ []
     → IsDocument doc now (j ++ e ∷ []) → AreDocuments documents j → AreDocuments (slice_set documents doc now) (j ++ e ∷ [])
-kept_set documents doc was now j e at_was may apart no_making small here were = record {
+kept_set documents doc was now j e at_was may apart no_making here were = record {
   legal = legal_push j e were.legal may;
   few = let n = length-set documents doc now in let m = were.few in omega (arith, n, m);
   count = length-set documents doc now ∙ were.count ∙ sym (same_count j e no_making);
   each = λ d x at. by d x at (eqb_tells doc d);
-  raw = raw_on j e small were.raw;
 }
   where
     by : (d : ℕ) (x : Document) → slice_get (slice_set documents doc now) d ≡ Some x → ((eqb doc d ≡ true) × (doc ≡ d)) ⊎ ((eqb doc d ≡ false) × (doc ≢ d)) → IsDocument d x (j ++ e ∷ [])
@@ -162,7 +162,6 @@ kept_same documents documents' doc j t were = subst (λ (l : List Document). Are
   few = let n = length-set documents doc t.now in let m = were.few in omega (arith, n, m);
   count = length-set documents doc t.now ∙ were.count;
   each = λ d x at. by d x at (eqb_tells doc d);
-  raw = were.raw;
 })
   where
     was : IsDocument doc t.was j
@@ -236,7 +235,6 @@ kept_made documents new j e doc name project first base is may few is_new were =
   few = let n = length-append documents (new ∷ []) in omega (arith, n, few);
   count = let n = length-append documents (new ∷ []) in let k = ap length ms ∙ length-append (makings j) (m ∷ []) in let c = were.count in omega (arith, n, k, c);
   each = λ d document at. by d document (last_or documents new d document at);
-  raw = raw_on j e (λ u sent. (let f : None ≡ Some u = sym (ap update_of is) ∙ sent in absurd (cc))) were.raw;
 }
   where
     m : Making
@@ -275,5 +273,4 @@ kept_none = record {
   few = omega arith;
   count = ap length (sym makings-none);
   each = λ d document at. absurd (cc);
-  raw = λ t u is. (let lt = update_within [] t u is in absurd (omega (arith, lt)));
 }

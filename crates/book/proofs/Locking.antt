@@ -43,7 +43,7 @@ use Rattle.book.specs.Calls.{stale_in, MayRefuse, acquire_refused, refused_of, r
 use Rattle.book.proofs.Lists.{same_item}
 use Rattle.book.proofs.Owed.{owed_set, owed_least}
 use Rattle.book.proofs.Keeping.{Passes, kept_set, here_acquired, here_released, here_committed, unmade_lock}
-use Rattle.book.proofs.Booking.{no_name, push_book, unsent}
+use Rattle.book.proofs.Booking.{no_name, push_book}
 
 -- ---- what the lock answers is what the journal says
 stale_as : (o : Option Acquiring) (tokens : List ℕ) (token : ℕ) → stale_in (lock_in o tokens) token ≡ (if eqb (token_in o) token then (if is_held_in o tokens then None else Some Ended) else Some (Other (token_in o)))
@@ -110,8 +110,7 @@ pub acquired_book : {names names' : List (List ℕ)} (before mid after : Journal
 acquired_book {names} {names'} before mid after documents documents' now tokens owed drivers sum doc until seat e was called same enough more less seat_is is may t =
     let locked = subst (λ n. IsLocked (record { last = tokens + 1; until = until; seat = n; held = true }) t.was t.now) (sym seat_is) t.is in
     let here = here_acquired doc t.was t.now (entries before) e was.stands.legal (was.stands.each doc t.was t.at) (tokens + 1) until is may.token_is locked in
-    let stands = kept_set documents doc t.was t.now (entries before) e t.at (subst (IsAllowed (entries before) e.seat) (sym is) may) (λ d apart. subst (Passes d) (sym is) apart) (ap making_of is)
-    (λ u sent. unsent (update_of e.act) (ap update_of is) u sent) here was.stands in
+    let stands = kept_set documents doc t.was t.now (entries before) e t.at (subst (IsAllowed (entries before) e.seat) (sym is) may) (λ d apart. subst (Passes d) (sym is) apart) (ap making_of is) here was.stands in
     let one = ap (λ a. length (acquiring_of e.seat a)) is in
     let all = owed_set documents doc t.was t.now t.at in
     let s = ap owed_for t.set_is in
@@ -149,8 +148,7 @@ pub released_book : {names names' : List (List ℕ)} (before after : Journaled) 
 released_book {names} {names'} before after documents documents' now tokens owed drivers doc token seat e was called more less seat_is is holds t held =
     let here = here_released doc t.was t.now (entries before) e was.stands.legal (was.stands.each doc t.was t.at) token holds.acquiring is holds.held.last holds.token_is t.is in
     let may : IsAllowed (entries before) e.seat e.act = subst (IsAllowed (entries before) e.seat) (sym is) (subst (λ n. Holds n doc token (entries before)) (sym seat_is) holds) in
-    let stands = kept_set documents doc t.was t.now (entries before) e t.at may (λ d apart. subst (Passes d) (sym is) apart) (ap making_of is)
-    (λ u sent. unsent (update_of e.act) (ap update_of is) u sent) here was.stands in
+    let stands = kept_set documents doc t.was t.now (entries before) e t.at may (λ d apart. subst (Passes d) (sym is) apart) (ap making_of is) here was.stands in
     let none = ap (λ a. length (acquiring_of e.seat a)) is in
     let all = owed_set documents doc t.was t.now t.at in
     let s = ap owed_for t.set_is in
@@ -209,8 +207,7 @@ settled_book {R} {names} {names'} before after documents documents' now tokens o
     let left : t.now.waiting.items ≡ rest = ap rest_of (sym waits ∙ x.waiting_is ∙ first) in
     let here = here_committed doc t.was t.now j e was.stands.legal x token ticket outcome u rest is first named becomes locks left in
     let allowed : IsAllowed j e.seat e.act = subst (IsAllowed j e.seat) (sym is) (subst (λ n. IsAllowed j n (Committed doc token ticket outcome)) (sym seat_is) may) in
-    let stands = kept_set documents doc t.was t.now j e t.at allowed (λ d apart. subst (Passes d) (sym is) apart) (ap making_of is)
-    (λ u sent. unsent (update_of e.act) (ap update_of is) u sent) here was.stands in
+    let stands = kept_set documents doc t.was t.now j e t.at allowed (λ d apart. subst (Passes d) (sym is) apart) (ap making_of is) here was.stands in
     let none = ap (λ a. length (acquiring_of e.seat a)) is in
     let all = owed_set documents doc t.was t.now t.at in
     let s = ap owed_for t.set_is in

@@ -1,4 +1,4 @@
--- There is room to move a raw update past what a window holds.
+-- There is room to move an update past what a window holds.
 use Rattle.std.proofs.Common.{ℕ, ◌+◌, ◌*◌, ◌^◌, ◌≤◌, ◌<◌, List, [], ◌∷◌, length, arith, All}
 use Rattle.std.proofs.lemmas.List.Sums.{sum_by-cons}
 use Rattle.std.proofs.lemmas.List.Elements.{All-nil, All-cons, All-head, All-tail}
@@ -9,27 +9,12 @@ use Rattle.ot_transform.specs.Room.{new_units, new_units_of_all, Room, FitsAll}
 use Rattle.ot_transform.specs.Size.{edit_units, edit_units_in, Within}
 use Rattle.dup_check.specs.declared.past.Past.{Past}
 use Rattle.dup_check.specs.Snapshot.{IsSmall, operations}
-use Rattle.journal_rules.specs.Legal.{IsRaw}
-use Rattle.journal_rules.proofs.Sizes.{comments_least, edits_least}
+use Rattle.journal_sizes.specs.Sizes.{IsSized}
+use Rattle.journal_sizes.proofs.Rooms.{inserted_least, low_said, room_within}
 use Rattle.book.specs.Deciding.{IsPassable, farthest}
 
-inserted_least : (cs : List Comp) → new_units cs ≤ edit_units_in cs
-inserted_least [] = omega arith
-inserted_least (Ins at part ∷ cs) = let r = inserted_least cs in let e = sum_by-cons edit_units (Ins at part) cs in omega (arith, r, e)
-inserted_least (Del at part ∷ cs) = let r = inserted_least cs in let e = sum_by-cons edit_units (Del at part) cs in omega (arith, r, e)
-inserted_least (Com at part thread ∷ cs) = let r = inserted_least cs in let e = sum_by-cons edit_units (Com at part thread) cs in omega (arith, r, e)
-
-pub raw_small : (op : List Comp) → IsRaw op → IsSmall op
-raw_small op raw = record {
-  units = let e = edits_least op in let s = raw.short in omega (arith, e, s);
-  comments = let c = comments_least op in let f = raw.few in omega (arith, c, f);
-}
-
-room_within : (n most : ℕ) (cs : List Comp) → most + n < 2 ^ 32 → Within most cs → Room n cs
-room_within n most [] fits within = tt
-room_within n most (c ∷ cs) fits within =
-    let h = All-head (λ (x : Comp). place x ≤ most) c cs within in
-    (omega (arith, h, fits), room_within n most cs fits (All-tail (λ (x : Comp). place x ≤ most) c cs within))
+pub sized_small : (op : List Comp) → IsSized op → IsSmall op
+sized_small op sized = record { units = sized.light.units; comments = sized.light.comments }
 
 all_inserted : (ps : List Past) → All (λ (x : Past). IsPassable x.op) ps → new_units_of_all (operations ps) ≤ 65536 * length ps
 all_inserted [] all = omega arith
@@ -44,9 +29,9 @@ all_room : (n : ℕ) (ps : List Past) → n ≤ 65536 → All (λ (x : Past). Is
 all_room n [] few all = All-nil (λ (other : List Comp). Room n other)
 all_room n (p ∷ ps) few all = All-cons (λ (other : List Comp). Room n other) p.op (operations ps) (room_within n farthest p.op (omega (arith, few)) (All-head (λ (x : Past). IsPassable x.op) p ps all).near) (all_room n ps few (All-tail (λ (x : Past). IsPassable x.op) p ps all))
 
-pub fits_past : (op : List Comp) (ps : List Past) → IsRaw op → All (λ (x : Past). IsPassable x.op) ps → length ps ≤ 100 → FitsAll op (operations ps)
-fits_past op ps raw all few =
+pub fits_past : (op : List Comp) (ps : List Past) → IsSized op → All (λ (x : Past). IsPassable x.op) ps → length ps ≤ 100 → FitsAll op (operations ps)
+fits_past op ps sized all few =
     let i = all_inserted ps all in
     let n = inserted_least op in
-    let u = (raw_small op raw).units in
-    (room_within (new_units_of_all (operations ps)) 1000000000 op (omega (arith, i, few)) raw.in_reach, all_room (new_units op) ps (omega (arith, n, u)) all)
+    let u = sized.light.units in
+    (room_within (new_units_of_all (operations ps)) 1000000000 op (omega (arith, i, few)) (low_said op sized.low), all_room (new_units op) ps (omega (arith, n, u)) all)

@@ -21,13 +21,13 @@ use Rattle.dup_check.specs.Snapshot.{Agrees, Applies, InReach, IsReady, IsSmall,
 use Rattle.journal_entries.specs.declared.update.Update.{Update}
 use Rattle.journal_entries.specs.declared.update.Outcome.{Outcome}
 use Rattle.journal_rules.specs.Deciding.{decided_of, longest}
-use Rattle.journal_rules.specs.Legal.{IsRaw}
+use Rattle.journal_sizes.specs.Sizes.{IsSized}
 use Rattle.book.specs.declared.document.Document.{Document}
 use Rattle.book.specs.Passing.{past_or_none}
 use Rattle.book.specs.Deciding.{Becomes, IsPassable, stamp_at}
 use Rattle.book.specs.Standing.{IsDecidable, decision_on}
 use Rattle.book.specs.Looking.{IsLook, TakesDecision}
-use Rattle.book.proofs.Rooms.{fits_past, raw_small}
+use Rattle.book.proofs.Rooms.{fits_past, sized_small}
 
 module _ (old : Document) (u : Update) (look : Snapshot) (is : IsLook old u look) where
   -- ---- what is asked
@@ -42,13 +42,13 @@ module _ (old : Document) (u : Update) (look : Snapshot) (is : IsLook old u look
   pub short_look : IsDecidable old → length look.text ≤ longest
   short_look can = subst (λ (t : List ℕ). length t ≤ longest) (sym is.text_is) can.short
 
-  pub ready : IsDecidable old → IsRaw u.op → InReach look → IsReady look
-  ready can raw within = record {
+  pub ready : IsDecidable old → IsSized u.op → InReach look → IsReady look
+  ready can sized within = record {
     whole = ap₂ (λ (x : Update) (l : List Past). x.v + length l) is.update_is past_is ∙ (let l = long in let v = version_is in omega (arith, l, v, high));
-    small = subst (λ (x : Update). IsSmall x.op) (sym is.update_is) (raw_small u.op raw);
+    small = subst (λ (x : Update). IsSmall x.op) (sym is.update_is) (sized_small u.op sized);
     room = subst (λ (x : Update). FitsAll x.op (operations look.past.items)) (sym is.update_is)
         (subst (λ (l : List Past). FitsAll u.op (operations l)) (sym past_is)
-        (fits_past u.op (last_of (old.window.version - u.v) old.window.last) raw (All-drop (λ (x : Past). IsPassable x.op) (length old.window.last - (old.window.version - u.v)) old.window.last can.small) (let l = long in omega (arith, l, young))));
+        (fits_past u.op (last_of (old.window.version - u.v) old.window.last) sized (All-drop (λ (x : Past). IsPassable x.op) (length old.window.last - (old.window.version - u.v)) old.window.last can.small) (let l = long in omega (arith, l, young))));
   }
     where
       v_is : look.update.v ≡ u.v

@@ -23,6 +23,8 @@ use Rattle.book.specs.declared.faults.TickFault.{TickFault}
 use Rattle.book.specs.declared.faults.TickFault.TheVariants as tick
 use Rattle.book.specs.declared.faults.RawFault.{RawFault}
 use Rattle.book.specs.declared.faults.RawFault.TheVariants as raw
+use Rattle.book.specs.declared.faults.JoinFault.{JoinFault}
+use Rattle.book.specs.declared.faults.JoinFault.TheVariants as join
 use Rattle.book.specs.declared.faults.AcquireFault.{AcquireFault}
 use Rattle.book.specs.declared.faults.AcquireFault.TheVariants as acquire
 use Rattle.book.specs.declared.faults.CommitFault.{CommitFault}
@@ -61,6 +63,11 @@ raw_act now u = raw_act_of u.op now u
 abbrev pub ticket_of_raw : Result (List Comp) FormFault → ℕ → Option ℕ
 ticket_of_raw (Ok op) at = Some at
 ticket_of_raw (Err fault) at = None
+
+-- ---- join
+abbrev pub MayNotJoin : ℕ → List Entry → JoinFault → Type 0
+MayNotJoin doc journal join.NoDoc = length (makings journal) ≤ doc
+MayNotJoin doc journal join.Memory = IsMade doc journal
 
 -- ---- acquire
 abbrev pub refused_of : Option Busy → Option AcquireFault

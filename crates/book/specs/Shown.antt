@@ -8,6 +8,8 @@ use Rattle.journal_rules.specs.Locks.{acquirings, clock}
 use Rattle.journal_rules.specs.Legal.{clock_end, closed}
 use Rattle.turn_rules.specs.Turns.{entry_by}
 use Rattle.book.specs.declared.document.Document.{Document}
+use Rattle.rooms.specs.Rooms.{Roomed}
+use Rattle.book.specs.Roomed.{AreRoomed}
 use Rattle.book.specs.Standing.{AreDocuments, owed_for}
 
 pub record Shown : Type 0 where
@@ -36,6 +38,11 @@ pub record IsBook (journal : Journaled) (names : List (List ℕ)) (documents : L
   pub tokens_are : tokens ≡ length (acquirings (entries journal))
   pub counted : owed_for documents + unclosed (driver_count drivers) (closed (entries journal)) ≤ owed
   pub room : owed ≤ spare journal
+
+-- and so do its rooms
+pub record IsBookWithRooms (journal : Journaled) (names : List (List ℕ)) (documents : List Document) (rooms : Roomed) (now tokens owed drivers : ℕ) : Type 0 where
+  pub book : IsBook journal names documents now tokens owed drivers
+  pub roomed : AreRoomed rooms (entries journal)
 
 -- a book with these entries more, by a seat, for a line or for none
 abbrev pub adds : Shown → ℕ → Option ℕ → List Act → Shown

@@ -13,7 +13,7 @@ use Rattle.journal_rules.specs.Tracking.{cells}
 use Rattle.journal_rules.specs.Deciding.{decided_of, passed_of, longest}
 use Rattle.journal_rules.specs.Keeping.{cached}
 use Rattle.journal_rules.specs.Locks.{Acquiring, last_acquiring, released}
-use Rattle.journal_rules.specs.Legal.{IsLegal, IsRaw}
+use Rattle.journal_rules.specs.Legal.{IsLegal}
 use Rattle.book.specs.declared.document.Document.{Document}
 use Rattle.book.specs.Passing.{passed_by}
 use Rattle.ranges_tracker.specs.Trackable.{IsTracked}
@@ -57,13 +57,12 @@ pub record IsDocument (d : ℕ) (document : Document) (journal : List Entry) : T
   pub lock_is : document.lock ≡ lock_of d journal
   pub cached_is : cached d journal ≡ true
 
--- the journal is legal, each document stands as it has it, and each update that was sent is within the limits
+-- the journal is legal, and each document stands as it has it
 pub record AreDocuments (documents : List Document) (journal : List Entry) : Type 0 where
   pub legal : IsLegal journal
   pub few : length documents ≤ 1000
   pub count : length documents ≡ length (makings journal)
   pub each : (d : ℕ) (document : Document) → slice_get documents d ≡ Some document → IsDocument d document journal
-  pub raw : (ticket : ℕ) (u : Update) → update_at journal ticket ≡ Some u → IsRaw u.op
 
 -- how many entries are owed for a document: one for each update that waits, and one for a lock that wasn't released
 abbrev pub one_for : Bool → ℕ

@@ -16,11 +16,13 @@ ghost use Rattle.book.specs.Standing.{IsNew};
 use crate::document::Document;
 use crate::documents::Documents;
 use crate::faults::{By, MakeFault, RawFault, RawUpdate, TickFault};
+use crate::mail::reserve_waiting;
 use crate::room::make_room;
 use journal_entries::{Act, Entry, Journal, MAX_MOMENT, Update, Why};
 use ot_op::Op;
 use ot_text::doc_text;
 use ot_units::{Name, Units};
+use rooms::Rooms;
 use std::alloc::{AllocError, Global};
 use std::marker::Model;
 
@@ -29,6 +31,8 @@ use std::marker::Model;
 pub struct Book {
     pub(crate) journal: Journal,
     pub(crate) documents: Documents,
+    /// The clients that are in a document's room, with what they are still to be told of.
+    pub(crate) rooms: Rooms,
     /// The clock, in milliseconds of the script.
     pub(crate) moment: u64,
     /// How many tokens were given.
@@ -42,13 +46,13 @@ pub struct Book {
 impl Model for Book {
     ghost use Rattle.std.specs.Prelude.{◌≡◌};
     ghost use Rattle.journal_entries.specs.Journals.{entries};
-    ghost use Rattle.book.specs.Shown.{Shown, IsBook};
+    ghost use Rattle.book.specs.Shown.{Shown, IsBookWithRooms};
 
     ghost Value = { Shown };
 
     ghost view = { λ b. record { journal = entries b.journal; drivers = b.drivers } };
 
-    ghost invariant = { λ b. IsBook b.journal b.documents.names b.documents.items b.moment b.tokens b.owed b.drivers };
+    ghost invariant = { λ b. IsBookWithRooms b.journal b.documents.names b.documents.items b.rooms b.moment b.tokens b.owed b.drivers };
 }
 
 impl Book {
@@ -63,6 +67,7 @@ impl Book {
         Ok(Book {
             journal,
             documents: Documents::new(alloc),
+            rooms: Rooms::new(alloc),
             moment: 0,
             tokens: 0,
             owed,
@@ -162,10 +167,11 @@ impl Book {
         let Ok(sum) = make_room(&mut self.journal, self.owed, 2) else {
             return Err(RawFault::Memory);
         };
-        let ticket = self.journal.len();
-        let Ok(()) = self.documents.queue(doc, ticket) else {
+        let Ok(()) = reserve_waiting(&mut self.documents, &mut self.rooms, raw.doc) else {
             return Err(RawFault::Memory);
         };
+        let ticket = self.journal.len();
+        self.documents.queue(doc, ticket);
         self.journal.push(entry_of(by, Act::Sent { update }));
         self.owed = sum - 1;
         Ok(Some(ticket))

@@ -4,7 +4,7 @@ ghost use Rattle.std.specs.Prelude.{◌≡◌, ◌<◌, ◌≤◌, ◌^◌, ◌-
 ghost use Rattle.expiring_lock.specs.declared.lock.TheConstants.{LOCK_LIFE};
 ghost use Rattle.dup_check.specs.declared.snapshot.Snapshot.{Snapshot};
 ghost use Rattle.journal_rules.specs.Legal.{clock_end};
-ghost use Rattle.book.specs.Standing.{IsNew, IsQueued, IsKeptAs};
+ghost use Rattle.book.specs.Standing.{IsNew};
 ghost use Rattle.dup_check.specs.Snapshot.{outcome_of};
 ghost use Rattle.book.specs.Looking.{IsLook, IsSettled, op_of};
 
@@ -77,16 +77,6 @@ impl Document {
             update: update.copy(alloc)?,
             at: taking.at,
         })
-    }
-
-    /// One update more waits.
-    pub(crate) fn queue(&mut self, ticket: u64) -> Result<(), AllocError>
-        ensures ok { OnOk result (IsQueued ticket self.old self.new) }
-        ensures err { OnErr result (IsKeptAs self.old self.new) }
-    {
-        self.waiting.reserve()?;
-        self.waiting.push(ticket);
-        Ok(())
     }
 
     /// The first update that waits is settled by what was decided on it. `op` is the operation that

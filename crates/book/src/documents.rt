@@ -88,17 +88,30 @@ impl Documents {
         }
     }
 
-    /// One update more waits for a document.
-    pub(crate) fn queue(&mut self, doc: usize, ticket: u64) -> Result<(), AllocError>
+    /// Makes room for one update more that waits for a document. The only error is want of memory.
+    pub(crate) fn reserve(&mut self, doc: usize) -> Result<(), AllocError>
         requires { doc < length self.old.items }
         ensures names { self.new.names ≡ self.old.names }
-        ensures ok { OnOk result (Turns doc (IsQueued ticket) self.old.items self.new.items) }
-        ensures err { OnErr result (Turns doc IsKeptAs self.old.items self.new.items) }
+        ensures kept { Turns doc IsKeptAs self.old.items self.new.items }
+        ensures room { OnOk result ((d : Document) → slice_get self.new.items doc ≡ Some d → 0 < d.waiting.spare) }
     {
         let Some(document) = self.store.get_mut(doc) else {
             unreachable!()
         };
-        document.queue(ticket)
+        document.waiting.reserve()
+    }
+
+    /// One update more waits for a document.
+    pub(crate) fn queue(&mut self, doc: usize, ticket: u64)
+        requires within { doc < length self.old.items }
+        requires room { (d : Document) → slice_get self.old.items doc ≡ Some d → 0 < d.waiting.spare }
+        ensures names { self.new.names ≡ self.old.names }
+        ensures queued { Turns doc (IsQueued ticket) self.old.items self.new.items }
+    {
+        let Some(document) = self.store.get_mut(doc) else {
+            unreachable!()
+        };
+        document.waiting.push(ticket);
     }
 
     /// A document's lock is taken, which is free or has expired. Answers when it expires.

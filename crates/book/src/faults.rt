@@ -72,6 +72,14 @@ pub enum RawFault {
     Memory,
 }
 
+/// Why a client doesn't join a document.
+#[derive(Clone, Copy, Debug, PartialEq, Eq)]
+pub enum JoinFault {
+    /// The document wasn't made.
+    NoDoc,
+    Memory,
+}
+
 /// Why a document's lock isn't acquired.
 #[derive(Clone, Copy, Debug, PartialEq, Eq)]
 pub enum AcquireFault {

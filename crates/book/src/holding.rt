@@ -16,6 +16,7 @@ use crate::book::{Book, entry_of};
 use crate::document::Taking;
 use crate::documents::update_at;
 use crate::faults::{AcquireFault, By, CommitFault, Prepared};
+use crate::mail::post;
 use crate::room::make_room;
 use dup_check::Snapshot;
 use expiring_lock::Stale;
@@ -94,8 +95,12 @@ impl Book {
             return Err(CommitFault::Memory(prepared));
         };
         // No journal is so long that a version could pass 2^64.
-        let _length = self.journal.len();
+        let length = self.journal.len();
         let outcome = self.documents.settle(at, prepared, op);
+        let Some(update) = update_at(self.journal.as_slice(), ticket) else {
+            unreachable!()
+        };
+        post(&mut self.rooms, length, update, &outcome);
         self.journal.push(entry_of(
             by,
             Act::Committed {
@@ -132,6 +137,11 @@ impl Book {
         }
         self.documents.unqueue(at);
         let outcome = Outcome::Refused(cause);
+        let length = self.journal.len();
+        let Some(update) = update_at(self.journal.as_slice(), ticket) else {
+            unreachable!()
+        };
+        post(&mut self.rooms, length, update, &outcome);
         self.journal.push(entry_of(
             by,
             Act::Committed {

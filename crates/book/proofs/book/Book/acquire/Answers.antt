@@ -29,7 +29,7 @@ returns-in_default-front-clause-refused c =
     let items = s.documents.items in
     let x = c.in-Some.document.now in
     let at : slice_get s.documents.items c.args.doc ≡ Some x = sym c.get.ensures ∙ ap option_copied c.in-Some.is in
-    rw (← c.self.view_is) (sym (acquire_empty (entries s.journal) items c.args.doc x c.self.invariant.stands at (sym c.front.ensures ∙ ap option_copied c.in_default-front.is)))
+    rw (← c.self.view_is) (sym (acquire_empty (entries s.journal) items c.args.doc x c.self.invariant.book.stands at (sym c.front.ensures ∙ ap option_copied c.in_default-front.is)))
 
 pub returns-in-Some-busy-clause-refused : goal.returns-in-Some-busy-clause-refused
 returns-in-Some-busy-clause-refused c =
@@ -39,12 +39,12 @@ returns-in-Some-busy-clause-refused c =
     let at : slice_get s.documents.items c.args.doc ≡ Some x = sym c.get.ensures ∙ ap option_copied c.in-Some.is in
     let first : slice_get x.waiting.items 0 ≡ Some c.in-Some-front.field-0.now = sym c.front.ensures ∙ ap option_copied c.in-Some-front.is in
     let u : IsUnexpired x.lock s.moment = search (rules, c.busy.ensures.busy, c.in-Some-busy.is) in
-    let a = acquire_busy (entries s.journal) items c.args.doc x c.self.invariant.stands at c.in-Some-front.field-0.now s.moment first c.self.invariant.now_is u in
+    let a = acquire_busy (entries s.journal) items c.args.doc x c.self.invariant.book.stands at c.in-Some-front.field-0.now s.moment first c.self.invariant.book.now_is u in
     rw (← c.self.view_is) (search (rules, a, c.in-Some-busy.ensures.told))
 
 pub overflow_add-token : goal.overflow_add-token
 overflow_add-token c =
-    let t = c.self.invariant.tokens_are in
+    let t = c.self.invariant.book.tokens_are in
     let short = acquirings_short (entries c.self.inside.journal) in
     let l = c.len-length.ensures.value in
     let k = c.len-length.ensures.short in
@@ -57,15 +57,15 @@ unreachable-requires c =
     let x = c.in-Some.document.now in
     let at : slice_get s.documents.items c.args.doc ≡ Some x = sym c.get.ensures ∙ ap option_copied c.in-Some.is in
     let first : slice_get x.waiting.items 0 ≡ Some c.in-Some-front.field-0.now = sym c.front.ensures ∙ ap option_copied c.in-Some-front.is in
-    let w = waits_first (entries s.journal) items c.args.doc x c.self.invariant.stands at c.in-Some-front.field-0.now first in
+    let w = waits_first (entries s.journal) items c.args.doc x c.self.invariant.book.stands at c.in-Some-front.field-0.now first in
     let sent = waits_sent c.args.doc c.in-Some-front.field-0.now (entries s.journal) w.0 w.1 in
     let f : None ≡ Some sent.0 = sym (ap option_copied c.in_default-update_at.is) ∙ c.update_at.ensures ∙ ap (λ l. update_at l c.in-Some-front.field-0.now) c.as_slice.ensures ∙ sent.1 in
     absurd (cc)
 
 pub take-until-requires-clause-next : goal.take-until-requires-clause-next
 take-until-requires-clause-next c = λ d at.
-    let b = token_below (entries c.self.inside.journal) c.self.inside.documents.items c.args.doc d c.self.invariant.stands at in
-    let t = c.self.invariant.tokens_are in
+    let b = token_below (entries c.self.inside.journal) c.self.inside.documents.items c.args.doc d c.self.invariant.book.stands at in
+    let t = c.self.invariant.book.tokens_are in
     omega (arith, b, t)
 
 pub take-until-requires-clause-free : goal.take-until-requires-clause-free
@@ -84,13 +84,13 @@ invariant_of-self-2 c =
     let x = c.in-Some.document.now in
     let at : slice_get s.documents.items c.args.doc ≡ Some x = sym c.get.ensures ∙ ap option_copied c.in-Some.is in
     let free : IsUnexpired x.lock s.moment → ⊥ = search (rules, c.busy.ensures.busy, c.in_default-busy.is) in
-    let count = c.self.invariant.stands.count in
+    let count = c.self.invariant.book.stands.count in
     let within = slice_get_within items c.args.doc x at in
     let made : IsMade c.args.doc (entries s.journal) = omega (arith, count, within) in
-    let may = may_acquire c.args.doc s.moment (s.moment + LOCK_LIFE) x (entries s.journal) made (c.self.invariant.stands.each c.args.doc x at) c.self.invariant.now_is refl free in
-    let row = subst (λ n. IsAcquiring (entries s.journal) c.args.doc (n + 1) (s.moment + LOCK_LIFE)) (sym c.self.invariant.tokens_are) may in
+    let may = may_acquire c.args.doc s.moment (s.moment + LOCK_LIFE) x (entries s.journal) made (c.self.invariant.book.stands.each c.args.doc x at) c.self.invariant.book.now_is refl free in
+    let row = subst (λ n. IsAcquiring (entries s.journal) c.args.doc (n + 1) (s.moment + LOCK_LIFE)) (sym c.self.invariant.book.tokens_are) may in
     acquired_book s.journal c.make_room.new.journal c.push.new.self items c.take-until.new.self.items s.moment s.tokens s.owed s.drivers c.in-Ok-make_room.sum c.args.doc (s.moment + LOCK_LIFE) c.args.by.seat c.entry_of.result
-    c.self.invariant c.take-until.ensures.names c.make_room.ensures.entries c.in-Ok-make_room.ensures.room c.push.ensures.entries c.push.ensures.spare (ap (λ (e : Entry). e.seat) c.entry_of.ensures)
+    c.self.invariant.book c.take-until.ensures.names c.make_room.ensures.entries c.in-Ok-make_room.ensures.room c.push.ensures.entries c.push.ensures.spare (ap (λ (e : Entry). e.seat) c.entry_of.ensures)
     (ap (λ (e : Entry). e.act) c.entry_of.ensures ∙ ap (λ n. Acquired c.args.doc (s.tokens + 1) n) c.take-until.ensures.until) row c.take-until.ensures.taken
 
 pub returns-in_default-look-clause-refused : goal.returns-in_default-look-clause-refused
@@ -101,7 +101,7 @@ returns-in_default-look-clause-refused c =
     let at : slice_get s.documents.items c.args.doc ≡ Some x = sym c.get.ensures ∙ ap option_copied c.in-Some.is in
     let first : slice_get x.waiting.items 0 ≡ Some c.in-Some-front.field-0.now = sym c.front.ensures ∙ ap option_copied c.in-Some-front.is in
     let free : IsUnexpired x.lock s.moment → ⊥ = search (rules, c.busy.ensures.busy, c.in_default-busy.is) in
-    rw (← c.self.view_is) (sym (acquire_free (entries s.journal) items c.args.doc x c.self.invariant.stands at c.in-Some-front.field-0.now s.moment first c.self.invariant.now_is free))
+    rw (← c.self.view_is) (sym (acquire_free (entries s.journal) items c.args.doc x c.self.invariant.book.stands at c.in-Some-front.field-0.now s.moment first c.self.invariant.book.now_is free))
 
 pub returns-in_default-make_room-clause-refused : goal.returns-in_default-make_room-clause-refused
 returns-in_default-make_room-clause-refused c =
@@ -111,7 +111,7 @@ returns-in_default-make_room-clause-refused c =
     let at : slice_get s.documents.items c.args.doc ≡ Some x = sym c.get.ensures ∙ ap option_copied c.in-Some.is in
     let first : slice_get x.waiting.items 0 ≡ Some c.in-Some-front.field-0.now = sym c.front.ensures ∙ ap option_copied c.in-Some-front.is in
     let free : IsUnexpired x.lock s.moment → ⊥ = search (rules, c.busy.ensures.busy, c.in_default-busy.is) in
-    rw (← c.self.view_is) (sym (acquire_free (entries s.journal) items c.args.doc x c.self.invariant.stands at c.in-Some-front.field-0.now s.moment first c.self.invariant.now_is free))
+    rw (← c.self.view_is) (sym (acquire_free (entries s.journal) items c.args.doc x c.self.invariant.book.stands at c.in-Some-front.field-0.now s.moment first c.self.invariant.book.now_is free))
 
 pub returns-clause-free : goal.returns-clause-free
 returns-clause-free c =
@@ -121,7 +121,7 @@ returns-clause-free c =
     let at : slice_get s.documents.items c.args.doc ≡ Some x = sym c.get.ensures ∙ ap option_copied c.in-Some.is in
     let first : slice_get x.waiting.items 0 ≡ Some c.in-Some-front.field-0.now = sym c.front.ensures ∙ ap option_copied c.in-Some-front.is in
     let free : IsUnexpired x.lock s.moment → ⊥ = search (rules, c.busy.ensures.busy, c.in_default-busy.is) in
-    rw (← c.self.view_is) (acquire_free (entries s.journal) items c.args.doc x c.self.invariant.stands at c.in-Some-front.field-0.now s.moment first c.self.invariant.now_is free)
+    rw (← c.self.view_is) (acquire_free (entries s.journal) items c.args.doc x c.self.invariant.book.stands at c.in-Some-front.field-0.now s.moment first c.self.invariant.book.now_is free)
 
 pub returns-clause-ready : goal.returns-clause-ready
 returns-clause-ready c =
@@ -131,8 +131,8 @@ returns-clause-ready c =
     let at : slice_get s.documents.items c.args.doc ≡ Some x = sym c.get.ensures ∙ ap option_copied c.in-Some.is in
     let u = c.in-Some-update_at.update.now in
     let named : update_at (entries s.journal) c.in-Some-front.field-0.now ≡ Some u = sym (ap (λ l. update_at l c.in-Some-front.field-0.now) c.as_slice.ensures) ∙ sym c.update_at.ensures ∙ ap option_copied c.in-Some-update_at.is in
-    let can = is_decidable c.args.doc x (entries s.journal) (c.self.invariant.stands.each c.args.doc x at) in
-    let raw = c.self.invariant.stands.raw c.in-Some-front.field-0.now u named in
+    let can = is_decidable c.args.doc x (entries s.journal) (c.self.invariant.book.stands.each c.args.doc x at) in
+    let raw = c.self.invariant.book.stands.raw c.in-Some-front.field-0.now u named in
     let look = c.in-Ok.ensures.look in
     record { agrees = agrees x u c.in-Ok.look look can; short = short_look x u c.in-Ok.look look can; ready = λ within. ready x u c.in-Ok.look look can raw within }
 
@@ -145,17 +145,17 @@ returns-clause-looks c =
     let token = s.tokens + 1 in
     let until = s.moment + LOCK_LIFE in
     let t = c.take-until.ensures.taken in
-    let legal = c.self.invariant.stands.legal in
-    let before = c.self.invariant.stands.each doc t.was t.at in
+    let legal = c.self.invariant.book.stands.legal in
+    let before = c.self.invariant.book.stands.each doc t.was t.at in
     let x = c.in-Some.document.now in
     let at : slice_get s.documents.items c.args.doc ≡ Some x = sym c.get.ensures ∙ ap option_copied c.in-Some.is in
     let first : slice_get x.waiting.items 0 ≡ Some c.in-Some-front.field-0.now = sym c.front.ensures ∙ ap option_copied c.in-Some-front.is in
-    let w = waits_first j s.documents.items doc x c.self.invariant.stands at c.in-Some-front.field-0.now first in
+    let w = waits_first j s.documents.items doc x c.self.invariant.book.stands at c.in-Some-front.field-0.now first in
     let u = c.in-Some-update_at.update.now in
     let named : update_at j c.in-Some-front.field-0.now ≡ Some u = sym (ap (λ l. update_at l c.in-Some-front.field-0.now) c.as_slice.ensures) ∙ sym c.update_at.ensures ∙ ap option_copied c.in-Some-update_at.is in
     let is : e.act ≡ Acquired doc token until = ap (λ (y : Entry). y.act) c.entry_of.ensures ∙ ap (λ n. Acquired doc token n) c.take-until.ensures.until in
     let seat_is : e.seat ≡ c.args.by.seat = ap (λ (y : Entry). y.seat) c.entry_of.ensures in
-    let next : token ≡ next_token j = ap (λ n. n + 1) c.self.invariant.tokens_are in
+    let next : token ≡ next_token j = ap (λ n. n + 1) c.self.invariant.book.tokens_are in
     let locked = subst (λ n. IsLocked (record { last = token; until = until; seat = n; held = true }) t.was t.now) (sym seat_is) t.is in
     let here = here_acquired doc t.was t.now j e legal before token until is next locked in
     let taking = c.in-Ok.ensures.taking in
@@ -174,4 +174,4 @@ returns-clause-cached c =
     let s = c.self.inside in
     let x = c.in-Some.document.now in
     let at : slice_get s.documents.items c.args.doc ≡ Some x = sym c.get.ensures ∙ ap option_copied c.in-Some.is in
-    rw (← c.self.view_is) (c.self.invariant.stands.each c.args.doc x at).cached_is
+    rw (← c.self.view_is) (c.self.invariant.book.stands.each c.args.doc x at).cached_is

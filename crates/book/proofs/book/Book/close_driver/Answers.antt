@@ -7,18 +7,18 @@ pub push-requires : goal.push-requires
 push-requires c =
     let s = c.self.inside in
     let below = subst (λ (v : Shown). c.args.driver < driver_count v.drivers) (sym c.self.view_is) c.requires.one in
-    let one = driver_owed s.journal s.documents.items s.moment s.tokens s.owed s.drivers c.args.driver c.self.invariant below (search (rules, c.requires.once, c.self.view_is)) in
-    let room = c.self.invariant.room in
+    let one = driver_owed s.journal s.documents.items s.moment s.tokens s.owed s.drivers c.args.driver c.self.invariant.book below (search (rules, c.requires.once, c.self.view_is)) in
+    let room = c.self.invariant.book.room in
     omega (arith, one, room)
 
 pub overflow_sub-self : goal.overflow_sub-self
 overflow_sub-self c =
     let s = c.self.inside in
     let below = subst (λ (v : Shown). c.args.driver < driver_count v.drivers) (sym c.self.view_is) c.requires.one in
-    driver_owed s.journal s.documents.items s.moment s.tokens s.owed s.drivers c.args.driver c.self.invariant below (search (rules, c.requires.once, c.self.view_is))
+    driver_owed s.journal s.documents.items s.moment s.tokens s.owed s.drivers c.args.driver c.self.invariant.book below (search (rules, c.requires.once, c.self.view_is))
 
 pub invariant_of-self : goal.invariant_of-self
 invariant_of-self c =
     let s = c.self.inside in
     let below = subst (λ (v : Shown). c.args.driver < driver_count v.drivers) (sym c.self.view_is) c.requires.one in
-    closed_book s.journal c.push.new.self s.documents.items s.moment s.tokens s.owed s.drivers c.args.driver c.entry_of.result c.self.invariant c.push.ensures.entries c.push.ensures.spare (search rules) below (search (rules, c.requires.once, c.self.view_is))
+    closed_book s.journal c.push.new.self s.documents.items s.moment s.tokens s.owed s.drivers c.args.driver c.entry_of.result c.self.invariant.book c.push.ensures.entries c.push.ensures.spare (search rules) below (search (rules, c.requires.once, c.self.view_is))

@@ -15,29 +15,29 @@ returns-then-at-len-clause-refused c =
     let s = c.self.inside in
     let len = c.len.ensures in
     let high = c.if-at-len.true in
-    rw (← c.self.view_is) (told_unmade s.journal s.documents.items s.moment s.tokens s.owed s.drivers c.args.prepared.look.doc c.args.prepared.look.token c.self.invariant (Some c.never_given.result) (omega (arith, len, high)) c.never_given.ensures)
+    rw (← c.self.view_is) (told_unmade s.journal s.documents.items s.moment s.tokens s.owed s.drivers c.args.prepared.look.doc c.args.prepared.look.token c.self.invariant.book (Some c.never_given.result) (omega (arith, len, high)) c.never_given.ensures)
 
 pub returns-in-Some-clause-refused : goal.returns-in-Some-clause-refused
 returns-in-Some-clause-refused c =
     let s = c.self.inside in
     let len = c.len.ensures in
     let low = c.if-at-len.false in
-    rw (← c.self.view_is) (told_by s.journal s.documents.items s.moment s.tokens s.owed s.drivers c.args.prepared.look.doc c.args.prepared.look.token c.self.invariant (Some c.in-Some.stale) (omega (arith, len, low)) (λ d at. c.check.ensures d at ∙ c.in-Some.is))
+    rw (← c.self.view_is) (told_by s.journal s.documents.items s.moment s.tokens s.owed s.drivers c.args.prepared.look.doc c.args.prepared.look.token c.self.invariant.book (Some c.in-Some.stale) (omega (arith, len, low)) (λ d at. c.check.ensures d at ∙ c.in-Some.is))
 
 pub returns-in_default-copy_op-clause-refused : goal.returns-in_default-copy_op-clause-refused
 returns-in_default-copy_op-clause-refused c =
     let s = c.self.inside in
     let len = c.len.ensures in
     let low = c.if-at-len.false in
-    rw (← c.self.view_is) (told_by s.journal s.documents.items s.moment s.tokens s.owed s.drivers c.args.prepared.look.doc c.args.prepared.look.token c.self.invariant None (omega (arith, len, low)) (λ d at. c.check.ensures d at ∙ c.in_default.is), refl)
+    rw (← c.self.view_is) (told_by s.journal s.documents.items s.moment s.tokens s.owed s.drivers c.args.prepared.look.doc c.args.prepared.look.token c.self.invariant.book None (omega (arith, len, low)) (λ d at. c.check.ensures d at ∙ c.in_default.is), refl)
 
 pub push-requires : goal.push-requires
 push-requires c =
     let s = c.self.inside in
     let len = c.len.ensures in
     let low = c.if-at-len.false in
-    let one = held_owed s.journal s.documents.items s.moment s.tokens s.owed s.drivers c.args.prepared.look.doc c.args.prepared.look.token c.self.invariant (omega (arith, len, low)) (λ d at. c.check.ensures d at ∙ c.in_default.is) in
-    let room = c.self.invariant.room in
+    let one = held_owed s.journal s.documents.items s.moment s.tokens s.owed s.drivers c.args.prepared.look.doc c.args.prepared.look.token c.self.invariant.book (omega (arith, len, low)) (λ d at. c.check.ensures d at ∙ c.in_default.is) in
+    let room = c.self.invariant.book.room in
     omega (arith, one, room)
 
 pub overflow_sub-self : goal.overflow_sub-self
@@ -45,7 +45,7 @@ overflow_sub-self c =
     let s = c.self.inside in
     let len = c.len.ensures in
     let low = c.if-at-len.false in
-    held_owed s.journal s.documents.items s.moment s.tokens s.owed s.drivers c.args.prepared.look.doc c.args.prepared.look.token c.self.invariant (omega (arith, len, low)) (λ d at. c.check.ensures d at ∙ c.in_default.is)
+    held_owed s.journal s.documents.items s.moment s.tokens s.owed s.drivers c.args.prepared.look.doc c.args.prepared.look.token c.self.invariant.book (omega (arith, len, low)) (λ d at. c.check.ensures d at ∙ c.in_default.is)
 
 pub settle-outcome-requires-clause-waits : goal.settle-outcome-requires-clause-waits
 settle-outcome-requires-clause-waits c = λ d at.
@@ -53,15 +53,15 @@ settle-outcome-requires-clause-waits c = λ d at.
     let len = c.len.ensures in
     let low = c.if-at-len.false in
     let look = c.args.prepared.look in
-    let none = told_by s.journal s.documents.items s.moment s.tokens s.owed s.drivers look.doc look.token c.self.invariant None (omega (arith, len, low)) (λ d at. c.check.ensures d at ∙ c.in_default.is) in
+    let none = told_by s.journal s.documents.items s.moment s.tokens s.owed s.drivers look.doc look.token c.self.invariant.book None (omega (arith, len, low)) (λ d at. c.check.ensures d at ∙ c.in_default.is) in
     let of = subst (λ (v : Shown). IsOf look v.journal) (sym c.self.view_is) c.requires.looked in
-    some_waits (entries s.journal) s.documents.items look.doc d look.ticket _ c.self.invariant.stands at (first look (entries s.journal) c.self.invariant.stands.legal of none)
+    some_waits (entries s.journal) s.documents.items look.doc d look.ticket _ c.self.invariant.book.stands at (first look (entries s.journal) c.self.invariant.book.stands.legal of none)
 
 pub settle-outcome-requires-clause-low : goal.settle-outcome-requires-clause-low
 settle-outcome-requires-clause-low c = λ d at.
     let value = c.len-length.ensures.value in
     let short = c.len-length.ensures.short in
-    version_fits (entries c.self.inside.journal) c.self.inside.documents.items d c.args.prepared.look.doc c.self.invariant.stands at (omega (arith, value, short))
+    version_fits (entries c.self.inside.journal) c.self.inside.documents.items d c.args.prepared.look.doc c.self.invariant.book.stands at (omega (arith, value, short))
 
 pub invariant_of-self : goal.invariant_of-self
 invariant_of-self c =
@@ -69,9 +69,9 @@ invariant_of-self c =
     let len = c.len.ensures in
     let low = c.if-at-len.false in
     let look = c.args.prepared.look in
-    let none = told_by s.journal s.documents.items s.moment s.tokens s.owed s.drivers look.doc look.token c.self.invariant None (omega (arith, len, low)) (λ d at. c.check.ensures d at ∙ c.in_default.is) in
+    let none = told_by s.journal s.documents.items s.moment s.tokens s.owed s.drivers look.doc look.token c.self.invariant.book None (omega (arith, len, low)) (λ d at. c.check.ensures d at ∙ c.in_default.is) in
     let of = subst (λ (v : Shown). IsOf look v.journal) (sym c.self.view_is) c.requires.looked in
-    committed_book s.journal c.push.new.self s.documents.items c.settle-outcome.new.self.items s.moment s.tokens s.owed s.drivers c.args.by.seat look c.args.prepared.decision c.entry_of.result c.self.invariant c.settle-outcome.ensures.names c.push.ensures.entries c.push.ensures.spare
+    committed_book s.journal c.push.new.self s.documents.items c.settle-outcome.new.self.items s.moment s.tokens s.owed s.drivers c.args.by.seat look c.args.prepared.decision c.entry_of.result c.self.invariant.book c.settle-outcome.ensures.names c.push.ensures.entries c.push.ensures.spare
     (ap (λ (e : Entry). e.seat) c.entry_of.ensures) c.requires.seat (ap (λ (e : Entry). e.act) c.entry_of.ensures ∙ ap (λ o. Committed look.doc look.token look.ticket o) c.settle-outcome.ensures.outcome) of none c.requires.decided c.settle-outcome.ensures.settled
 
 pub returns-clause-ok : goal.returns-clause-ok
@@ -80,9 +80,9 @@ returns-clause-ok c =
     let len = c.len.ensures in
     let low = c.if-at-len.false in
     let look = c.args.prepared.look in
-    let none = told_by s.journal s.documents.items s.moment s.tokens s.owed s.drivers look.doc look.token c.self.invariant None (omega (arith, len, low)) (λ d at. c.check.ensures d at ∙ c.in_default.is) in
+    let none = told_by s.journal s.documents.items s.moment s.tokens s.owed s.drivers look.doc look.token c.self.invariant.book None (omega (arith, len, low)) (λ d at. c.check.ensures d at ∙ c.in_default.is) in
     let of = subst (λ (v : Shown). IsOf look v.journal) (sym c.self.view_is) c.requires.looked in
     let t = c.settle-outcome.ensures.settled in
-    let is = c.settle-outcome.ensures.outcome ∙ decided_now (entries s.journal) s.documents.items t.was look c.args.prepared.decision c.self.invariant.stands t.at of none c.requires.decided in
+    let is = c.settle-outcome.ensures.outcome ∙ decided_now (entries s.journal) s.documents.items t.was look c.args.prepared.decision c.self.invariant.book.stands t.at of none c.requires.decided in
     let e = c.entry_of.ensures ∙ ap (λ o. record { seat = c.args.by.seat; line = c.args.by.line; act = Committed look.doc look.token look.ticket o }) is in
     rw (← c.self.view_is) (none, ap (λ l. record { journal = l; drivers = s.drivers }) (c.push.ensures.entries ∙ ap (λ (x : Entry). entries s.journal ++ x ∷ []) e))

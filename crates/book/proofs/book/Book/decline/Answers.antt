@@ -6,4 +6,4 @@ use Rattle.book.proofs.book.Book.decline.Goals as goal
 pub invariant_of-self-2 : goal.invariant_of-self-2
 invariant_of-self-2 c = let s = c.self.inside in
     quiet_by s.journal c.make_room.new.journal c.push.new.self s.documents.items s.moment s.moment s.tokens s.owed s.drivers c.in_ok-make_room.field-0 c.args.by.seat c.args.by.line (Declined c.args.session c.args.why) c.entry_of.result c.entry_of.ensures
-    c.self.invariant c.make_room.ensures.entries c.in_ok-make_room.ensures.room c.push.ensures.entries c.push.ensures.spare (search rules) tt refl refl c.self.invariant.now_low
+    c.self.invariant.book c.make_room.ensures.entries c.in_ok-make_room.ensures.room c.push.ensures.entries c.push.ensures.spare (search rules) tt refl refl c.self.invariant.book.now_low

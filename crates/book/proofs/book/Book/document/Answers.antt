@@ -5,4 +5,4 @@ use Rattle.book.proofs.book.Book.document.Goals as goal
 pub returns : goal.returns
 returns c =
     let at = sym c.get.ensures ∙ ap option_copied c.in-Some.is in
-    rw (← c.self.view_is) (c.self.invariant.stands.each c.args.doc c.in-Some.document.now at)
+    rw (← c.self.view_is) (c.self.invariant.book.stands.each c.args.doc c.in-Some.document.now at)

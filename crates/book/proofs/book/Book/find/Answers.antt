@@ -5,12 +5,12 @@ use Rattle.book.proofs.book.Book.find.Goals as goal
 
 pub returns-in_err-found : goal.returns-in_err-found
 returns-in_err-found c =
-    let on = found_as c.args.name.now c.self.inside.documents.names (entries c.self.inside.journal) c.self.invariant.names_are in
+    let on = found_as c.args.name.now c.self.inside.documents.names (entries c.self.inside.journal) c.self.invariant.book.names_are in
     let is = c.self.view_is in
     search (rules, on, is)
 
 pub returns : goal.returns
 returns c =
-    let on = found_as c.args.name.now c.self.inside.documents.names (entries c.self.inside.journal) c.self.invariant.names_are in
+    let on = found_as c.args.name.now c.self.inside.documents.names (entries c.self.inside.journal) c.self.invariant.book.names_are in
     let is = c.self.view_is in
     search (rules, on, is)

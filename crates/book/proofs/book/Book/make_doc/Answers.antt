@@ -9,40 +9,40 @@ use Rattle.book.proofs.book.Book.make_doc.Goals as goal
 
 pub returns-in-Some-clause-refused : goal.returns-in-Some-clause-refused
 returns-in-Some-clause-refused c =
-    let on = found_as c.args.name.now c.self.inside.documents.names (entries c.self.inside.journal) c.self.invariant.names_are in
+    let on = found_as c.args.name.now c.self.inside.documents.names (entries c.self.inside.journal) c.self.invariant.book.names_are in
     let is = c.self.view_is in
     search (rules, on, is)
 
 pub returns-in_default-made-clause-refused : goal.returns-in_default-made-clause-refused
 returns-in_default-made-clause-refused c =
-    let on = found_as c.args.name.now c.self.inside.documents.names (entries c.self.inside.journal) c.self.invariant.names_are in
+    let on = found_as c.args.name.now c.self.inside.documents.names (entries c.self.inside.journal) c.self.invariant.book.names_are in
     let is = c.self.view_is in
     search (rules, on, is)
 
 pub returns-in_default-make_room-clause-refused : goal.returns-in_default-make_room-clause-refused
 returns-in_default-make_room-clause-refused c =
-    let on = found_as c.args.name.now c.self.inside.documents.names (entries c.self.inside.journal) c.self.invariant.names_are in
+    let on = found_as c.args.name.now c.self.inside.documents.names (entries c.self.inside.journal) c.self.invariant.book.names_are in
     let is = c.self.view_is in
     search (rules, on, is)
 
 pub returns-in_default-add-clause-refused : goal.returns-in_default-add-clause-refused
-returns-in_default-add-clause-refused c = rw (← c.self.view_is) (sym (sym (found_as c.args.name.now c.self.inside.documents.names (entries c.self.inside.journal) c.self.invariant.names_are) ∙ sym c.find.ensures ∙ c.in_default.is))
+returns-in_default-add-clause-refused c = rw (← c.self.view_is) (sym (sym (found_as c.args.name.now c.self.inside.documents.names (entries c.self.inside.journal) c.self.invariant.book.names_are) ∙ sym c.find.ensures ∙ c.in_default.is))
 
 pub invariant_of-self-2 : goal.invariant_of-self-2
 invariant_of-self-2 c =
     let s = c.self.inside in
-    let count = c.self.invariant.stands.count in
-    let none = sym (found_as c.args.name.now c.self.inside.documents.names (entries c.self.inside.journal) c.self.invariant.names_are) ∙ sym c.find.ensures ∙ c.in_default.is in
+    let count = c.self.invariant.book.stands.count in
+    let none = sym (found_as c.args.name.now c.self.inside.documents.names (entries c.self.inside.journal) c.self.invariant.book.names_are) ∙ sym c.find.ensures ∙ c.in_default.is in
     let len = c.len-doc.ensures in
     let doc_is : c.len-doc.result ≡ length (makings (entries s.journal)) = omega (arith, len, count) in
     let making : IsMaking (entries s.journal) c.len-doc.result c.args.name.now c.args.first.now c.args.base = record { next = doc_is; new = unnamed c.args.name.now (makings (entries s.journal)) none; short = c.requires.short; low = c.requires.low } in
     let few : length (makings (entries s.journal)) < 1000 = subst (λ (v : Shown). length (makings v.journal) < 1000) (sym c.self.view_is) c.requires.few in
     rw (c.in-Ok-add.ensures.names, c.in-Ok-add.ensures.items, c.in-Ok.ensures.name) (made_book s.journal c.make_room.new.journal c.push.new.self s.documents.items c.in-Ok.document s.moment s.tokens s.owed s.drivers c.in-Ok-make_room._sum c.in-Ok.entry c.len-doc.result c.args.name.now c.args.project.now c.args.first.now c.args.base
-    c.self.invariant c.make_room.ensures.entries c.in-Ok-make_room.ensures.room.0 c.in-Ok-make_room.ensures.room.1 c.push.ensures.entries c.push.ensures.spare (ap (λ (e : Entry). e.act) c.in-Ok.ensures.entry) making (omega (arith, few, count)) c.in-Ok.ensures.document)
+    c.self.invariant.book c.make_room.ensures.entries c.in-Ok-make_room.ensures.room.0 c.in-Ok-make_room.ensures.room.1 c.push.ensures.entries c.push.ensures.spare (ap (λ (e : Entry). e.act) c.in-Ok.ensures.entry) making (omega (arith, few, count)) c.in-Ok.ensures.document)
 
 pub returns-clause-made : goal.returns-clause-made
 returns-clause-made c =
-    let count = c.self.invariant.stands.count in
-    let none = sym (found_as c.args.name.now c.self.inside.documents.names (entries c.self.inside.journal) c.self.invariant.names_are) ∙ sym c.find.ensures ∙ c.in_default.is in
+    let count = c.self.invariant.book.stands.count in
+    let none = sym (found_as c.args.name.now c.self.inside.documents.names (entries c.self.inside.journal) c.self.invariant.book.names_are) ∙ sym c.find.ensures ∙ c.in_default.is in
     let len = c.len-doc.ensures in
     rw (← c.self.view_is) (omega (arith, len, count), none, search rules)

@@ -13,22 +13,22 @@ returns-then-at-len-clause-stale c =
     let s = c.self.inside in
     let len = c.len.ensures in
     let high = c.if-at-len.true in
-    rw (← c.self.view_is) (told_unmade s.journal s.documents.items s.moment s.tokens s.owed s.drivers c.args.doc c.args.token c.self.invariant (Some c.never_given.result) (omega (arith, len, high)) c.never_given.ensures)
+    rw (← c.self.view_is) (told_unmade s.journal s.documents.items s.moment s.tokens s.owed s.drivers c.args.doc c.args.token c.self.invariant.book (Some c.never_given.result) (omega (arith, len, high)) c.never_given.ensures)
 
 pub returns-in-Some-clause-stale : goal.returns-in-Some-clause-stale
 returns-in-Some-clause-stale c =
     let s = c.self.inside in
     let len = c.len.ensures in
     let low = c.if-at-len.false in
-    rw (← c.self.view_is) (told_by s.journal s.documents.items s.moment s.tokens s.owed s.drivers c.args.doc c.args.token c.self.invariant (Some c.in-Some.stale) (omega (arith, len, low)) (λ d at. c.check.ensures d at ∙ c.in-Some.is))
+    rw (← c.self.view_is) (told_by s.journal s.documents.items s.moment s.tokens s.owed s.drivers c.args.doc c.args.token c.self.invariant.book (Some c.in-Some.stale) (omega (arith, len, low)) (λ d at. c.check.ensures d at ∙ c.in-Some.is))
 
 pub push-requires : goal.push-requires
 push-requires c =
     let s = c.self.inside in
     let len = c.len.ensures in
     let low = c.if-at-len.false in
-    let one = held_owed s.journal s.documents.items s.moment s.tokens s.owed s.drivers c.args.doc c.args.token c.self.invariant (omega (arith, len, low)) (λ d at. c.check.ensures d at ∙ c.in_default.is) in
-    let room = c.self.invariant.room in
+    let one = held_owed s.journal s.documents.items s.moment s.tokens s.owed s.drivers c.args.doc c.args.token c.self.invariant.book (omega (arith, len, low)) (λ d at. c.check.ensures d at ∙ c.in_default.is) in
+    let room = c.self.invariant.book.room in
     omega (arith, one, room)
 
 pub overflow_sub-self : goal.overflow_sub-self
@@ -36,30 +36,30 @@ overflow_sub-self c =
     let s = c.self.inside in
     let len = c.len.ensures in
     let low = c.if-at-len.false in
-    held_owed s.journal s.documents.items s.moment s.tokens s.owed s.drivers c.args.doc c.args.token c.self.invariant (omega (arith, len, low)) (λ d at. c.check.ensures d at ∙ c.in_default.is)
+    held_owed s.journal s.documents.items s.moment s.tokens s.owed s.drivers c.args.doc c.args.token c.self.invariant.book (omega (arith, len, low)) (λ d at. c.check.ensures d at ∙ c.in_default.is)
 
 pub unqueue-requires-clause-waits : goal.unqueue-requires-clause-waits
 unqueue-requires-clause-waits c = λ d at.
     let s = c.self.inside in
     let len = c.len.ensures in
     let low = c.if-at-len.false in
-    let none = told_by s.journal s.documents.items s.moment s.tokens s.owed s.drivers c.args.doc c.args.token c.self.invariant None (omega (arith, len, low)) (λ d at. c.check.ensures d at ∙ c.in_default.is) in
+    let none = told_by s.journal s.documents.items s.moment s.tokens s.owed s.drivers c.args.doc c.args.token c.self.invariant.book None (omega (arith, len, low)) (λ d at. c.check.ensures d at ∙ c.in_default.is) in
     let may = subst (λ (v : Shown). staleness c.args.doc c.args.token v.journal ≡ None → MayRefuse v.journal c.args.by.seat c.args.doc c.args.token c.args.ticket c.args.cause) (sym c.self.view_is) c.requires.may none in
-    some_waits (entries s.journal) s.documents.items c.args.doc d c.args.ticket may.rest c.self.invariant.stands at may.first
+    some_waits (entries s.journal) s.documents.items c.args.doc d c.args.ticket may.rest c.self.invariant.book.stands at may.first
 
 pub invariant_of-self : goal.invariant_of-self
 invariant_of-self c =
     let s = c.self.inside in
     let len = c.len.ensures in
     let low = c.if-at-len.false in
-    let none = told_by s.journal s.documents.items s.moment s.tokens s.owed s.drivers c.args.doc c.args.token c.self.invariant None (omega (arith, len, low)) (λ d at. c.check.ensures d at ∙ c.in_default.is) in
+    let none = told_by s.journal s.documents.items s.moment s.tokens s.owed s.drivers c.args.doc c.args.token c.self.invariant.book None (omega (arith, len, low)) (λ d at. c.check.ensures d at ∙ c.in_default.is) in
     let may = subst (λ (v : Shown). staleness c.args.doc c.args.token v.journal ≡ None → MayRefuse v.journal c.args.by.seat c.args.doc c.args.token c.args.ticket c.args.cause) (sym c.self.view_is) c.requires.may none in
-    refused_book s.journal c.push.new.self s.documents.items c.unqueue.new.self.items s.moment s.tokens s.owed s.drivers c.args.doc c.args.token c.args.ticket c.args.by.seat c.args.cause c.entry_of.result c.self.invariant c.unqueue.ensures.names c.push.ensures.entries c.push.ensures.spare (ap (λ (e : Entry). e.seat) c.entry_of.ensures) (ap (λ (e : Entry). e.act) c.entry_of.ensures) may c.unqueue.ensures.taken
+    refused_book s.journal c.push.new.self s.documents.items c.unqueue.new.self.items s.moment s.tokens s.owed s.drivers c.args.doc c.args.token c.args.ticket c.args.by.seat c.args.cause c.entry_of.result c.self.invariant.book c.unqueue.ensures.names c.push.ensures.entries c.push.ensures.spare (ap (λ (e : Entry). e.seat) c.entry_of.ensures) (ap (λ (e : Entry). e.act) c.entry_of.ensures) may c.unqueue.ensures.taken
 
 pub returns-clause-ok : goal.returns-clause-ok
 returns-clause-ok c =
     let s = c.self.inside in
     let len = c.len.ensures in
     let low = c.if-at-len.false in
-    let none = told_by s.journal s.documents.items s.moment s.tokens s.owed s.drivers c.args.doc c.args.token c.self.invariant None (omega (arith, len, low)) (λ d at. c.check.ensures d at ∙ c.in_default.is) in
+    let none = told_by s.journal s.documents.items s.moment s.tokens s.owed s.drivers c.args.doc c.args.token c.self.invariant.book None (omega (arith, len, low)) (λ d at. c.check.ensures d at ∙ c.in_default.is) in
     rw (← c.self.view_is) (none, search rules)

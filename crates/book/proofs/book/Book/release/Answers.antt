@@ -13,22 +13,22 @@ returns-then-at-len-clause-stale c =
     let s = c.self.inside in
     let len = c.len.ensures in
     let high = c.if-at-len.true in
-    rw (← c.self.view_is) (told_unmade s.journal s.documents.items s.moment s.tokens s.owed s.drivers c.args.doc c.args.token c.self.invariant (Some c.never_given.result) (omega (arith, len, high)) c.never_given.ensures)
+    rw (← c.self.view_is) (told_unmade s.journal s.documents.items s.moment s.tokens s.owed s.drivers c.args.doc c.args.token c.self.invariant.book (Some c.never_given.result) (omega (arith, len, high)) c.never_given.ensures)
 
 pub returns-in-Some-clause-stale : goal.returns-in-Some-clause-stale
 returns-in-Some-clause-stale c =
     let s = c.self.inside in
     let len = c.len.ensures in
     let low = c.if-at-len.false in
-    rw (← c.self.view_is) (told_by s.journal s.documents.items s.moment s.tokens s.owed s.drivers c.args.doc c.args.token c.self.invariant (Some c.in-Some.stale) (omega (arith, len, low)) (λ d at. c.check.ensures d at ∙ c.in-Some.is))
+    rw (← c.self.view_is) (told_by s.journal s.documents.items s.moment s.tokens s.owed s.drivers c.args.doc c.args.token c.self.invariant.book (Some c.in-Some.stale) (omega (arith, len, low)) (λ d at. c.check.ensures d at ∙ c.in-Some.is))
 
 pub push-requires : goal.push-requires
 push-requires c =
     let s = c.self.inside in
     let len = c.len.ensures in
     let low = c.if-at-len.false in
-    let one = held_owed s.journal s.documents.items s.moment s.tokens s.owed s.drivers c.args.doc c.args.token c.self.invariant (omega (arith, len, low)) (λ d at. c.check.ensures d at ∙ c.in_default.is) in
-    let room = c.self.invariant.room in
+    let one = held_owed s.journal s.documents.items s.moment s.tokens s.owed s.drivers c.args.doc c.args.token c.self.invariant.book (omega (arith, len, low)) (λ d at. c.check.ensures d at ∙ c.in_default.is) in
+    let room = c.self.invariant.book.room in
     omega (arith, one, room)
 
 pub overflow_sub-self : goal.overflow_sub-self
@@ -36,7 +36,7 @@ overflow_sub-self c =
     let s = c.self.inside in
     let len = c.len.ensures in
     let low = c.if-at-len.false in
-    held_owed s.journal s.documents.items s.moment s.tokens s.owed s.drivers c.args.doc c.args.token c.self.invariant (omega (arith, len, low)) (λ d at. c.check.ensures d at ∙ c.in_default.is)
+    held_owed s.journal s.documents.items s.moment s.tokens s.owed s.drivers c.args.doc c.args.token c.self.invariant.book (omega (arith, len, low)) (λ d at. c.check.ensures d at ∙ c.in_default.is)
 
 pub let_go-requires-clause-current : goal.let_go-requires-clause-current
 let_go-requires-clause-current c = λ d at. let s = stands_in d.lock c.args.token (c.check.ensures d at ∙ c.in_default.is) in (sym s.0, s.1)
@@ -46,15 +46,15 @@ invariant_of-self c =
     let s = c.self.inside in
     let len = c.len.ensures in
     let low = c.if-at-len.false in
-    let none = told_by s.journal s.documents.items s.moment s.tokens s.owed s.drivers c.args.doc c.args.token c.self.invariant None (omega (arith, len, low)) (λ d at. c.check.ensures d at ∙ c.in_default.is) in
+    let none = told_by s.journal s.documents.items s.moment s.tokens s.owed s.drivers c.args.doc c.args.token c.self.invariant.book None (omega (arith, len, low)) (λ d at. c.check.ensures d at ∙ c.in_default.is) in
     let may = subst (λ (v : Shown). staleness c.args.doc c.args.token v.journal ≡ None → Holds c.args.by.seat c.args.doc c.args.token v.journal) (sym c.self.view_is) c.requires.may none in
     let held = stands_in c.let_go.ensures.freed.was.lock c.args.token (c.check.ensures c.let_go.ensures.freed.was c.let_go.ensures.freed.at ∙ c.in_default.is) in
-    released_book s.journal c.push.new.self s.documents.items c.let_go.new.self.items s.moment s.tokens s.owed s.drivers c.args.doc c.args.token c.args.by.seat c.entry_of.result c.self.invariant c.let_go.ensures.names c.push.ensures.entries c.push.ensures.spare (ap (λ (e : Entry). e.seat) c.entry_of.ensures) (ap (λ (e : Entry). e.act) c.entry_of.ensures) may c.let_go.ensures.freed held.1
+    released_book s.journal c.push.new.self s.documents.items c.let_go.new.self.items s.moment s.tokens s.owed s.drivers c.args.doc c.args.token c.args.by.seat c.entry_of.result c.self.invariant.book c.let_go.ensures.names c.push.ensures.entries c.push.ensures.spare (ap (λ (e : Entry). e.seat) c.entry_of.ensures) (ap (λ (e : Entry). e.act) c.entry_of.ensures) may c.let_go.ensures.freed held.1
 
 pub returns-clause-ok : goal.returns-clause-ok
 returns-clause-ok c =
     let s = c.self.inside in
     let len = c.len.ensures in
     let low = c.if-at-len.false in
-    let none = told_by s.journal s.documents.items s.moment s.tokens s.owed s.drivers c.args.doc c.args.token c.self.invariant None (omega (arith, len, low)) (λ d at. c.check.ensures d at ∙ c.in_default.is) in
+    let none = told_by s.journal s.documents.items s.moment s.tokens s.owed s.drivers c.args.doc c.args.token c.self.invariant.book None (omega (arith, len, low)) (λ d at. c.check.ensures d at ∙ c.in_default.is) in
     rw (← c.self.view_is) (none, ap (nat_lt 0) (c.waiting-more.ensures ∙ ap (λ (v : Shown). length (waiting c.args.doc v.journal)) (sym c.self.view_is)), search rules)

@@ -6,8 +6,8 @@ use Rattle.book.proofs.book.Book.tick.Goals as goal
 pub invariant_of-self-2 : goal.invariant_of-self-2
 invariant_of-self-2 c =
     let s = c.self.inside in
-    let now_is = c.self.invariant.now_is in
-    let now_low = c.self.invariant.now_low in
+    let now_is = c.self.invariant.book.now_is in
+    let now_low = c.self.invariant.book.now_low in
     let within = c.if-ms-self.false in
     quiet_by s.journal c.make_room.new.journal c.push.new.self s.documents.items s.moment (s.moment + c.args.ms) s.tokens s.owed s.drivers c.in-Ok._sum c.args.by.seat c.args.by.line (Ticked c.args.ms) c.entry_of.result c.entry_of.ensures
-    c.self.invariant c.make_room.ensures.entries c.in-Ok.ensures.room c.push.ensures.entries c.push.ensures.spare (omega (arith, now_is, now_low, within)) tt refl refl (omega (arith, now_low, within))
+    c.self.invariant.book c.make_room.ensures.entries c.in-Ok.ensures.room c.push.ensures.entries c.push.ensures.spare (omega (arith, now_is, now_low, within)) tt refl refl (omega (arith, now_low, within))

@@ -10,11 +10,11 @@ pub returns-in_default : goal.returns-in_default
 returns-in_default c =
     let items = c.self.inside.documents.items in
     let none : slice_get items c.args.doc ≡ None = sym c.get.ensures ∙ ap option_copied c.in_default.is in
-    rw (← c.self.view_is) (sym (waits_nowhere c.args.doc items (entries c.self.inside.journal) c.self.invariant.stands (none_within items c.args.doc none)))
+    rw (← c.self.view_is) (sym (waits_nowhere c.args.doc items (entries c.self.inside.journal) c.self.invariant.book.stands (none_within items c.args.doc none)))
 
 pub returns : goal.returns
 returns c =
     let items = c.self.inside.documents.items in
     let x = c.in-Some.document.now in
     let at : slice_get items c.args.doc ≡ Some x = sym c.get.ensures ∙ ap option_copied c.in-Some.is in
-    rw (← c.self.view_is) (c.len.ensures ∙ waits_as c.args.doc x items (entries c.self.inside.journal) c.self.invariant.stands at)
+    rw (← c.self.view_is) (c.len.ensures ∙ waits_as c.args.doc x items (entries c.self.inside.journal) c.self.invariant.book.stands at)

@@ -1,0 +1,214 @@
+//! The calls of a book for clients.
+
+ghost use Rattle.std.specs.Prelude.{◌≡◌, ◌≤◌, ◌+◌, ◌∷◌, [], length, slice_get, IfOk, IfErr, IfSome, OnOk, OnErr, None, Some};
+ghost use Rattle.journal_entries.specs.declared.act.Act.TheVariants.{Joined, Edited, Sent, Got};
+ghost use Rattle.journal_rules.specs.Documents.{IsMade, version};
+ghost use Rattle.journal_rules.specs.Legal.{brief_of, source_at};
+ghost use Rattle.journal_rules.specs.Locks.{clock};
+ghost use Rattle.journal_rules.specs.Mail.{mail};
+ghost use Rattle.journal_rules.specs.Client.{update_from};
+ghost use Rattle.share_client.specs.Clients.{send_fault, told_send};
+ghost use Rattle.share_client.specs.Edits.{IsEdit, IsRefusal, edit_comp, edit_fault};
+ghost use Rattle.book.specs.Shown.{adds};
+ghost use Rattle.book.specs.Roomed.{IsClientAfter, IsClientOf};
+ghost use Rattle.book.specs.Calls.{MayNotJoin};
+
+use crate::book::{Book, entry_of};
+use crate::faults::{By, JoinFault};
+use crate::mail::reserve_waiting;
+use crate::room::make_room;
+use journal_entries::{Act, Brief, FIRST_SOURCE, Msg, Update};
+use journal_rules::ClientState;
+use mail_places::message_at;
+use ot_units::Name;
+use share_client::{Edit, EditFault, SendFault, ShareClient};
+use std::alloc::AllocError;
+
+impl Book {
+    /// A client joins a document, from any state: it has the document's text at its version, and
+    /// nothing of its own. Its source is its own, by the number of this entry.
+    pub fn join(
+        &mut self,
+        by: By,
+        client: &mut ShareClient,
+        doc: u32,
+        user: &Name,
+        track: bool,
+    ) -> Result<(), JoinFault>
+        requires { IsClientOf self.old.journal client.old }
+        ensures ok { OnOk result (IsMade doc self.old.journal × (self.new ≡ adds self.old by.seat by.line (Joined client.old.client doc user.now track None (source_at self.old.journal) (version doc self.old.journal) ∷ []))) }
+        ensures client { IsClientAfter self.new.journal client.old client.new }
+        ensures refused { IfErr result (λ f. MayNotJoin doc self.old.journal f) }
+        ensures kept { OnErr result ((self.new ≡ self.old) × (client.new ≡ client.old)) }
+    {
+        let Some(document) = self.documents.get(doc as usize) else {
+            return Err(JoinFault::NoDoc);
+        };
+        let version = document.window.version();
+        let waits = document.waiting.len() as u64;
+        let Ok(text) = document.text.copy(self.alloc) else {
+            return Err(JoinFault::Memory);
+        };
+        let (Ok(own), Ok(named)) = (user.copy(self.alloc), user.copy(self.alloc)) else {
+            return Err(JoinFault::Memory);
+        };
+        let Ok(_sum) = make_room(&mut self.journal, self.owed, 1) else {
+            return Err(JoinFault::Memory);
+        };
+        let number = client.client();
+        let source = FIRST_SOURCE + self.journal.len();
+        let Ok(()) = self.rooms.join_with_room(number, doc, source, waits) else {
+            return Err(JoinFault::Memory);
+        };
+        client.joined(doc, own, track, version, text, source);
+        self.journal.push(entry_of(
+            by,
+            Act::Joined {
+                client: number,
+                doc,
+                user: named,
+                track,
+                since: None,
+                source,
+                v: version,
+            },
+        ));
+        Ok(())
+    }
+
+    /// A client edits its text. It's refused as [`ShareClient::edit`] refuses it.
+    pub fn edit(
+        &mut self,
+        by: By,
+        client: &mut ShareClient,
+        edit: &Edit,
+    ) -> Result<(), EditFault>
+        requires client { IsClientOf self.old.journal client.old }
+        requires edit { IsEdit edit.now }
+        ensures ok { OnOk result ((edit_fault client.old.now edit.now ≡ None) × (self.new ≡ adds self.old by.seat by.line (Edited client.old.client (edit_comp client.old.now.text edit.now) ∷ []))) }
+        ensures client { IsClientAfter self.new.journal client.old client.new }
+        ensures refused { IfErr result (λ f. IsRefusal client.old.now edit.now f) }
+        ensures kept { OnErr result ((self.new ≡ self.old) × (client.new ≡ client.old)) }
+    {
+        let Ok(_sum) = make_room(&mut self.journal, self.owed, 1) else {
+            return Err(EditFault::Memory);
+        };
+        let comp = client.edit(edit)?;
+        let client = client.client();
+        self.journal
+            .push(entry_of(by, Act::Edited { client, comp }));
+        Ok(())
+    }
+
+    /// A client sends what is pending, and the ticket is answered. It's refused as
+    /// [`ShareClient::take_send`] refuses it.
+    pub fn send(&mut self, by: By, client: &mut ShareClient) -> Result<u64, SendFault>
+        requires { IsClientOf self.old.journal client.old }
+        ensures ticket { IfOk result (λ t. t ≡ length self.old.journal) }
+        ensures ok { OnOk result ((send_fault client.old.now ≡ None)
+            × (self.new ≡ adds self.old by.seat by.line (Sent (update_from client.old.client client.old.now (clock self.old.journal) (client.old.now.number + 1) client.old.now.pending []) ∷ []))) }
+        ensures client { IsClientAfter self.new.journal client.old client.new }
+        ensures refused { IfErr result (λ f. told_send f ≡ send_fault client.old.now) }
+        ensures kept { OnErr result ((self.new ≡ self.old) × (client.new ≡ client.old)) }
+    {
+        if let Some(fault) = refused_send(client) {
+            return Err(fault);
+        }
+        let (Some(doc), Some(user)) = (client.doc(), client.user()) else {
+            unreachable!()
+        };
+        let (Some(track), Some(source)) = (client.track(), client.source()) else {
+            unreachable!()
+        };
+        let Ok(user) = user.copy(self.alloc) else {
+            return Err(SendFault::Memory);
+        };
+        let Ok(sum) = make_room(&mut self.journal, self.owed, 2) else {
+            return Err(SendFault::Memory);
+        };
+        let Ok(()) = reserve_waiting(&mut self.documents, &mut self.rooms, doc) else {
+            return Err(SendFault::Memory);
+        };
+        let sent = client.take_send()?;
+        let update = Update {
+            doc,
+            client: Some(client.client()),
+            number: sent.number,
+            source,
+            dup: sent.dup,
+            user,
+            track,
+            ms: self.moment,
+            v: sent.v,
+            op: sent.op,
+        };
+        let ticket = self.journal.len();
+        self.documents.queue(doc as usize, ticket);
+        self.journal.push(entry_of(by, Act::Sent { update }));
+        self.owed = sum - 1;
+        Ok(ticket)
+    }
+
+    /// A client gets the first message of its mail, which is answered, or `None` where its mail is
+    /// empty.
+    pub fn receive(
+        &mut self,
+        by: By,
+        client: &mut ShareClient,
+    ) -> Result<Option<Msg>, AllocError>
+        requires { IsClientOf self.old.journal client.old }
+        ensures first { IfOk result (λ m. m ≡ slice_get (mail client.old.client self.old.journal) 0) }
+        ensures got { IfOk result (λ m. IfSome m (λ msg. self.new ≡ adds self.old by.seat by.line (Got client.old.client (brief_of msg) ∷ []))) }
+        ensures none { IfOk result (λ m. m ≡ None → (self.new ≡ self.old) × (client.new ≡ client.old)) }
+        ensures client { IsClientAfter self.new.journal client.old client.new }
+        ensures kept { OnErr result ((self.new ≡ self.old) × (client.new ≡ client.old)) }
+    {
+        let number = client.client();
+        let (Some(place), Some(source)) = (self.rooms.next(number), self.rooms.source(number))
+        else {
+            return Ok(None);
+        };
+        let entries = self.journal.as_slice();
+        let Some(message) = message_at(self.alloc, entries, source, place)? else {
+            unreachable!()
+        };
+        let _sum = make_room(&mut self.journal, self.owed, 1)?;
+        client.on_message(&message)?;
+        let _place = self.rooms.pop(number);
+        let brief = brief(&message);
+        self.journal.push(entry_of(
+            by,
+            Act::Got {
+                client: number,
+                brief,
+            },
+        ));
+        Ok(Some(message))
+    }
+}
+
+// Why a client has nothing to send, or `None` where it has.
+fn refused_send(client: &ShareClient) -> Option<SendFault>
+    ensures { result ≡ send_fault client.now.now }
+{
+    if client.state() != ClientState::Joined {
+        return Some(SendFault::NotJoined);
+    }
+    if client.flight().is_some() {
+        return Some(SendFault::InFlight);
+    }
+    if client.pending().comps().is_empty() {
+        return Some(SendFault::Nothing);
+    }
+    None
+}
+
+fn brief(message: &Msg) -> Brief
+    ensures { result ≡ brief_of message.now }
+{
+    match message {
+        Msg::Op { v, .. } => Brief::Op(*v),
+        Msg::Ack { v, .. } => Brief::Ack(*v),
+        Msg::Error { number, .. } => Brief::Error(*number),
+    }
+}
