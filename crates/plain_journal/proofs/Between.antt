@@ -1,7 +1,6 @@
 -- The items of a document from a version on up to another, as they were found.
-use Rattle.std.proofs.Common.{◌≡◌, ℕ, zero, suc, ◌-◌, List, [], ◌∷◌, map, take, drop, sym, ap, ap₂, ◌∙◌, subst, All}
+use Rattle.std.proofs.Common.{◌≡◌, ℕ, ◌-◌, List, [], ◌∷◌, map, take, drop, sym, ap, ap₂, ◌∙◌, subst, All}
 use Rattle.std.specs.List.{take-map, drop-map}
-use Rattle.std.proofs.lemmas.List.Elements.{All-nil, All-cons}
 use Rattle.journal_entries.specs.declared.act.Entry.{Entry}
 use Rattle.journal_rules.specs.Documents as rules
 use Rattle.journal_rules.specs.Client.{items_between}
@@ -9,22 +8,13 @@ use Rattle.journal_rules.specs.Legal.{IsLegal}
 use Rattle.journal_rules.proofs.Lists.{AllIn}
 use Rattle.plain_journal.specs.declared.documents.Item.{Item}
 use Rattle.plain_journal.specs.Answers.{item_as}
-use Rattle.plain_journal.specs.Sizes.{IsSized}
-use Rattle.plain_journal.proofs.Bounds.{items_sized, all_in_drop}
+use Rattle.journal_sizes.specs.Sizes.{IsSized}
+use Rattle.journal_sizes.proofs.Updates.{items_sized, all_in_drop, all_in_take, all_in_all}
 
 pub between_is : (j : List Entry) (d from to skipped count : ℕ) (xs ys : List Item) → skipped ≡ from - rules.base d j → count ≡ to - from → map item_as xs ≡ rules.applied_list d j → ys ≡ take count (drop skipped xs)
     → map item_as ys ≡ items_between d from to j
 between_is j d from to skipped count xs ys at long items is =
     ap (map item_as) is ∙ sym (take-map item_as count (drop skipped xs)) ∙ ap (take count) (sym (drop-map item_as skipped xs) ∙ ap₂ drop at items) ∙ ap (λ n. take n (drop (from - rules.base d j) (rules.applied_list d j))) long
-
-all_in_take : {A : Type 0} (P : A → Type 0) (n : ℕ) (xs : List A) → AllIn P xs → AllIn P (take n xs)
-all_in_take P zero xs all = tt
-all_in_take P (suc n) [] all = tt
-all_in_take P (suc n) (x ∷ xs) all = (all.0, all_in_take P n xs all.1)
-
-all_in_all : {A : Type 0} (P : A → Type 0) (xs : List A) → AllIn P xs → All P xs
-all_in_all P [] all = All-nil P
-all_in_all P (x ∷ xs) all = All-cons P x xs all.0 (all_in_all P xs all.1)
 
 found_sized : (xs : List Item) → AllIn IsSized (map (λ (x : rules.Item). x.op) (map item_as xs)) → AllIn (λ (x : Item). IsSized x.op.now) xs
 found_sized [] all = tt

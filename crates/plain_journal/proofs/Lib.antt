@@ -1,9 +1,7 @@
 pub mod Prefixes
 pub mod Replays
 pub mod Scanning
-pub mod Bounds
 pub mod History
-pub mod Rooms
 pub mod Ease
 pub mod Between
 pub mod Shown

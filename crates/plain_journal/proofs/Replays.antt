@@ -1,11 +1,9 @@
 -- Operations applied in turn.
-use Rattle.std.proofs.Common.{◌≡◌, ◌++◌, None, ℕ, ◌+◌, ◌<◌, List, [], ◌∷◌, length, map, take, drop, get_or, refl, sym, ap, ◌∙◌, min}
+use Rattle.std.proofs.Common.{◌≡◌, ℕ, ◌+◌, ◌<◌, List, [], ◌∷◌, length, map, take, drop, get_or, refl, sym, ap, ◌∙◌, min}
 use Rattle.std.specs.List.{take-map}
 use Rattle.std.specs.Option.{option_and_then}
-use Rattle.std.proofs.lemmas.List.{drop_more, take_min, take-append-drop}
-use Rattle.ot_op.specs.declared.comp.Comp.{Comp}
-use Rattle.ot_op.specs.Apply.{applied_all, IsFailing}
-use Rattle.ot_op.proofs.Applying.{applied_all-append}
+use Rattle.std.proofs.lemmas.List.{drop_more, take_min}
+use Rattle.ot_op.specs.Apply.{applied_all}
 use Rattle.journal_rules.specs.Documents as rules
 use Rattle.plain_journal.specs.declared.documents.Item.{Item}
 use Rattle.plain_journal.specs.Answers.{item_as, operations}

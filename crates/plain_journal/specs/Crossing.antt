@@ -1,34 +1,18 @@
 -- What crossing leaves of the operations of a client.
-use Rattle.std.specs.Prelude.{◌≡◌, ◌<◌, ◌^◌, ◌-◌, ℕ, true, ⊤, ◌∷◌, List, Option, Some}
+use Rattle.std.specs.Prelude.{◌≡◌, ◌<◌, ◌^◌, ◌-◌, ℕ, true, ◌∷◌, List, Some}
 use Rattle.ot_op.specs.declared.comp.Comp.{Comp}
 use Rattle.plain_journal.specs.declared.crossing.Shift.{Shift}
 use Rattle.journal_entries.specs.declared.message.Msg.{Msg}
-use Rattle.journal_entries.specs.declared.message.Msg.TheVariants.{Op, Ack, Error}
 use Rattle.journal_rules.specs.declared.state.ClientState.{ClientState}
 use Rattle.journal_rules.specs.Client.{is_alive}
-use Rattle.plain_journal.specs.Sizes.{AreSized, IsLight, IsNear, IsSized}
-
--- the flight stays light, and what was moved past it has places near its own
-pub record IsFlown (both : Option (List Comp) × List Comp) : Type 0 where
-  pub flies : (f : List Comp) → both.0 ≡ Some f → IsLight f
-  pub past : IsNear both.1
+use Rattle.journal_sizes.specs.Sizes.{IsLight, IsSizedMsg}
 
 -- flight and pending stay light
 pub record AreLight (shift : Shift) : Type 0 where
   pub flies : (f : List Comp) → shift.flight ≡ Some f → IsLight f
   pub waits : IsLight shift.pending
 
--- the operations of a client that is joined or left are sized
-abbrev pub IsAtEase : ClientState → Option (List Comp) → List Comp → Type 0
-IsAtEase state flight pending = is_alive state ≡ true → AreSized flight pending
-
--- and so is an operation that it is told of
-abbrev pub IsSizedMsg : Msg → Type 0
-IsSizedMsg (Op v op source) = IsSized op
-IsSizedMsg (Ack v number) = ⊤
-IsSizedMsg (Error number cause) = ⊤
-
--- its version may go on by one
+-- the version of a client that is joined or left may go on by one
 abbrev pub IsLow : ClientState → ℕ → Type 0
 IsLow state version = is_alive state ≡ true → version < 2 ^ 64 - 1
 

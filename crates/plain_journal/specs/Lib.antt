@@ -1,5 +1,4 @@
 pub mod Answers
 pub mod Parts
-pub mod Sizes
 pub mod Crossing
 pub mod Whys

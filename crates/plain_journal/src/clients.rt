@@ -6,7 +6,8 @@ ghost use Rattle.journal_rules.specs.Documents.{text_at as text_at_lem};
 ghost use Rattle.journal_rules.specs.Client as rules;
 ghost use Rattle.journal_rules.specs.Legal.{IsAllowed, IsLegal};
 ghost use Rattle.plain_journal.specs.Answers.{client_as, item_as};
-ghost use Rattle.plain_journal.specs.Crossing.{IsAtEase, IsFirstSized, IsLow};
+ghost use Rattle.journal_sizes.specs.Sizes.{IsAtEase};
+ghost use Rattle.plain_journal.specs.Crossing.{IsFirstSized, IsLow};
 
 use crate::crossing::applied;
 use crate::delivering::{caught_up, delivered, is_alive};
@@ -171,7 +172,7 @@ fn returned(
     v: u64,
 ) -> Result<Client, AllocError>
     requires legal { IsLegal before.now }
-    requires ease { IsAtEase now.state now.flight now.pending }
+    requires ease { IsAtEase (client_as now) }
     requires low { now.version ≤ since }
     ensures { IfOk result (λ next. client_as next ≡ rules.back_under source (rules.caught_up (client_as now) (rules.items_between doc since v before.now))) }
 {
@@ -194,7 +195,7 @@ fn joined_by(
     v: u64,
 ) -> Result<Client, AllocError>
     requires legal { IsLegal before.now }
-    requires ease { IsAtEase now.state now.flight now.pending }
+    requires ease { IsAtEase (client_as now) }
     requires low { IfSome since (λ n. now.version ≤ n) }
     ensures { IfOk result (λ next. client_as next ≡ rules.joined_by (client_as now) before.now doc user track since source v) }
 {
@@ -268,7 +269,7 @@ fn added(sources: &Sources, source: u64) -> Result<Sources, AllocError>
 // A client gets the first message of its mail.
 fn got_by(alloc: Global, now: Client, mail: &[Msg]) -> Result<Client, AllocError>
     requires low { IsLow now.state now.version }
-    requires ease { IsAtEase now.state now.flight now.pending }
+    requires ease { IsAtEase (client_as now) }
     requires first { IsFirstSized now.state mail.now }
     ensures { IfOk result (λ next. client_as next ≡ rules.got_by (client_as now) mail.now) }
 {

@@ -5,8 +5,8 @@ ghost use Rattle.ot_op.specs.declared.comp.Comp.{Comp};
 ghost use Rattle.ot_op.specs.Apply.{applied as applied_lem};
 ghost use Rattle.journal_rules.specs.Client as rules;
 ghost use Rattle.plain_journal.specs.Answers.{shift_as};
-ghost use Rattle.plain_journal.specs.Sizes.{AreSized, IsLight, IsNear, IsSized};
-ghost use Rattle.plain_journal.specs.Crossing.{AreLight, IsFlown};
+ghost use Rattle.journal_sizes.specs.Sizes.{AreSized, IsFlown, IsLight, IsNear, IsSized};
+ghost use Rattle.plain_journal.specs.Crossing.{AreLight};
 
 use ot_op::{ApplyFault, Comp, Op, TextLike, apply};
 use ot_transform::cross;

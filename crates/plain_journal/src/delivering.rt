@@ -5,8 +5,8 @@ ghost use Rattle.journal_entries.specs.declared.message.Msg.TheVariants as told;
 ghost use Rattle.journal_rules.specs.Documents.{is_in};
 ghost use Rattle.journal_rules.specs.Client as rules;
 ghost use Rattle.plain_journal.specs.Answers.{client_as, item_as, shift_as};
-ghost use Rattle.plain_journal.specs.Sizes.{AreSized, IsSized};
-ghost use Rattle.plain_journal.specs.Crossing.{AreLight, IsAtEase, IsLow, IsSizedMsg};
+ghost use Rattle.journal_sizes.specs.Sizes.{AreSized, IsAtEase, IsSized, IsSizedMsg};
+ghost use Rattle.plain_journal.specs.Crossing.{AreLight, IsLow};
 
 use crate::allowed_updates::place_of;
 use crate::clients::Client;
@@ -101,7 +101,7 @@ fn given_op(
     requires own { AreSized client.flight client.pending }
     requires op { IsSized op.now }
     ensures value { IfOk result (λ next. client_as next ≡ rules.given_op (client_as client) v op.now source) }
-    ensures ease { IfOk result (λ next. IsAtEase next.state next.flight next.pending) }
+    ensures ease { IfOk result (λ next. IsAtEase (client_as next)) }
     ensures step { IfOk result (λ next. next.version ≤ client.version + 1) }
 {
     if v != client.version {
@@ -123,10 +123,10 @@ pub(crate) fn delivered_op(
     source: u64,
 ) -> Result<Client, AllocError>
     requires low { IsLow client.state client.version }
-    requires own { IsAtEase client.state client.flight client.pending }
+    requires own { IsAtEase (client_as client) }
     requires op { IsSized op.now }
     ensures value { IfOk result (λ next. client_as next ≡ rules.delivered (client_as client) (told.Op v op.now source)) }
-    ensures ease { IfOk result (λ next. IsAtEase next.state next.flight next.pending) }
+    ensures ease { IfOk result (λ next. IsAtEase (client_as next)) }
     ensures step { IfOk result (λ next. next.version ≤ client.version + 1) }
 {
     if is_alive(client.state) {
@@ -145,7 +145,7 @@ pub(crate) fn is_alive(state: ClientState) -> bool
 /// A message is delivered to a client.
 pub(crate) fn delivered(alloc: Global, client: Client, msg: &Msg) -> Result<Client, AllocError>
     requires low { IsLow client.state client.version }
-    requires own { IsAtEase client.state client.flight client.pending }
+    requires own { IsAtEase (client_as client) }
     requires msg { rules.is_alive client.state ≡ true → IsSizedMsg msg.now }
     ensures { IfOk result (λ next. client_as next ≡ rules.delivered (client_as client) msg.now) }
 {
@@ -178,7 +178,7 @@ pub(crate) fn caught_up(
     items: &[Item<'_>],
 ) -> Result<Client, AllocError>
     requires low { client.version + length items.now < 2 ^ 64 }
-    requires own { IsAtEase client.state client.flight client.pending }
+    requires own { IsAtEase (client_as client) }
     requires items { All (λ x. IsSized x.op.now) items.now }
     ensures { IfOk result (λ next. client_as next ≡ rules.caught_up (client_as client) (map item_as items.now)) }
 {

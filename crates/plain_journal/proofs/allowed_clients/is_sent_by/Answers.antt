@@ -1,6 +1,6 @@
 use Rattle.std.proofs.Common.{arith, ap}
 use Rattle.journal_rules.specs.Client as clients
-use Rattle.plain_journal.proofs.Ease.{number_low}
+use Rattle.journal_sizes.proofs.Counts.{number_low}
 use Rattle.plain_journal.proofs.allowed_clients.is_sent_by.Goals as goal
 
 pub is_sent-requires : goal.is_sent-requires

@@ -2,7 +2,8 @@ use Rattle.std.proofs.Common.{List, subst}
 use Rattle.std.specs.Prelude.{Option, IfSome}
 use Rattle.ot_op.specs.declared.comp.Comp.{Comp}
 use Rattle.ot_transform.specs.Size.{BothNoLarger}
-use Rattle.plain_journal.proofs.Rooms.{fits_sized, flown_past}
+use Rattle.journal_sizes.proofs.Rooms.{fits_sized}
+use Rattle.journal_sizes.proofs.Crossing.{flown_past}
 use Rattle.plain_journal.proofs.crossing.flight_crossed.Goals as goal
 
 pub cross-requires : goal.cross-requires

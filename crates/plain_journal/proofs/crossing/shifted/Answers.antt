@@ -4,8 +4,9 @@ use Rattle.ot_op.specs.declared.comp.Comp.{Comp}
 use Rattle.ot_op.specs.Apply.{applied_all}
 use Rattle.journal_rules.specs.Client as rules
 use Rattle.ot_transform.specs.Crossing.{crossed}
-use Rattle.plain_journal.specs.Crossing.{IsFlown}
-use Rattle.plain_journal.proofs.Rooms.{fits_near, shift_fails}
+use Rattle.journal_sizes.specs.Sizes.{IsFlown}
+use Rattle.journal_sizes.proofs.Rooms.{fits_near}
+use Rattle.journal_sizes.proofs.Crossing.{shift_fails}
 use Rattle.plain_journal.proofs.crossing.shifted.Goals as goal
 use Rattle.ot_op.proofs.Applying.{failing_none}
 

@@ -1,5 +1,5 @@
 use Rattle.std.proofs.Common.{sym}
-use Rattle.plain_journal.proofs.Bounds.{has_room}
+use Rattle.journal_sizes.proofs.Updates.{has_room}
 use Rattle.plain_journal.proofs.deciding.decided_on.Goals as goal
 
 pub decided-requires-clause-room : goal.decided-requires-clause-room

@@ -1,0 +1,7 @@
+pub mod Rooms
+pub mod Crossing
+pub mod Updates
+pub mod Clients
+pub mod Counts
+pub mod Mail
+pub mod Units
