@@ -1,6 +1,6 @@
 -- Whom a commit is told.
 use Rattle.std.proofs.Common.{◌≡◌, ◌≢◌, ℕ, List, [], ◌∷◌, ◌++◌, length, Bool, true, false, ◌&&◌, refl, sym, ap, ap₂, ◌∙◌, subst, ⊎_elim, eqb, eq-eqb, ne_eqb}
-use Rattle.std.specs.Prelude.{Option, Some, None, if◌then◌else◌, option_map}
+use Rattle.std.specs.Prelude.{Option, Some, None, if◌then◌else◌, option_map, ◌==◌}
 use Rattle.std.proofs.Math.Bool.{and-false}
 use Rattle.std.proofs.lemmas.Bool.{cases_eq}
 use Rattle.ot_op.specs.declared.comp.Comp.{Comp}
@@ -86,3 +86,40 @@ pub placed-applied : (c : ℕ) (j : List Entry) (e : Entry) (doc token ticket v 
 placed-applied c j e doc token ticket v op u legal is known =
     placed-committed c j e doc token ticket (Applied v op) u legal is known
     ∙ ap (λ d. option_map (placed_in d (length j)) (placed c j)) (committed_doc j e doc token ticket (Applied v op) u legal is known)
+
+-- what wasn't applied is told the one that sent it
+abbrev pub IsUnapplied : Outcome → Type 0
+IsUnapplied (Applied v op) = ⊥
+IsUnapplied (Dup v) = Unit {0}
+IsUnapplied (Refused cause) = Unit {0}
+
+unapplied_own : (c : ℕ) (u : Update) (at : ℕ) (outcome : Outcome) (o : Option Placed) → IsUnapplied outcome → option_map (placed_of c u at outcome) o ≡ option_map (placed_own c u at) o
+unapplied_own c u at (Applied v op) o un = absurd un
+unapplied_own c u at (Dup v) o un = refl
+unapplied_own c u at (Refused cause) o un = refl
+
+abbrev pub placed_under : ℕ → ℕ → Placed → Placed
+placed_under source at box = if box.source == source then with_place at box else box
+
+pub placed-sender : (c : ℕ) (j : List Entry) (e : Entry) (doc token ticket : ℕ) (outcome : Outcome) (u : Update) → IsLegal (j ++ e ∷ []) → e.act ≡ Committed doc token ticket outcome → update_at j ticket ≡ Some u → IsUnapplied outcome → u.client ≡ Some c
+    → placed c (j ++ e ∷ []) ≡ option_map (placed_under u.source (length j)) (placed c j)
+placed-sender c j e doc token ticket outcome u legal is known un own =
+    placed-committed c j e doc token ticket outcome u legal is known
+    ∙ unapplied_own c u (length j) outcome (placed c j) un
+    ∙ ap (λ b. option_map (λ (box : Placed). if b && box.source == u.source then with_place (length j) box else box) (placed c j)) (is_of_same c u.client own)
+
+pub placed-others : (c : ℕ) (j : List Entry) (e : Entry) (doc token ticket : ℕ) (outcome : Outcome) (u : Update) → IsLegal (j ++ e ∷ []) → e.act ≡ Committed doc token ticket outcome → update_at j ticket ≡ Some u → IsUnapplied outcome → (u.client ≡ Some c → ⊥)
+    → placed c (j ++ e ∷ []) ≡ placed c j
+placed-others c j e doc token ticket outcome u legal is known un apart =
+    placed-committed c j e doc token ticket outcome u legal is known
+    ∙ unapplied_own c u (length j) outcome (placed c j) un
+    ∙ ap (λ b. option_map (λ (box : Placed). if b && box.source == u.source then with_place (length j) box else box) (placed c j)) (not_of u.client apart)
+    ∙ as_it_was (placed c j)
+  where
+    not_of : (o : Option ℕ) → (o ≡ Some c → ⊥) → is_of c o ≡ false
+    not_of None apart = refl
+    not_of (Some k) apart = ne_eqb k c (λ same. apart (ap (λ (n : ℕ). Some n) same))
+
+    as_it_was : (o : Option Placed) → option_map (λ (box : Placed). if false && box.source == u.source then with_place (length j) box else box) o ≡ o
+    as_it_was None = refl
+    as_it_was (Some box) = refl

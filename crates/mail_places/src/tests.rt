@@ -1,0 +1,1 @@
+//! What clients are told at the places of a worked journal.
