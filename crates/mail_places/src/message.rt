@@ -24,7 +24,9 @@ pub fn message_at(
         return Ok(None);
     };
     let Act::Committed {
-        ticket, outcome, ..
+        ticket,
+        outcome,
+        ..
     } = &entry.act
     else {
         return Ok(None);
