@@ -1,0 +1,5 @@
+pub mod Placing
+pub mod Telling
+pub mod Rooming
+pub mod Sources
+pub mod Committing
