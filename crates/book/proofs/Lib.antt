@@ -9,6 +9,9 @@ pub mod Tokens
 pub mod Acquirings
 pub mod Holders
 pub mod Keeping
+pub mod Roomed
+pub mod Serving
+pub mod Sending
 pub mod Booking
 pub mod Locking
 pub mod Fenced

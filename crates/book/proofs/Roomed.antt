@@ -1,8 +1,8 @@
 -- The clients in the rooms of a book after one entry more.
 use Rattle.std.proofs.Common.{◌≡◌, ◌≢◌, ◌⊎◌, inl, inr, ℕ, ◌+◌, ◌-◌, ◌≤◌, List, [], ◌∷◌, ◌++◌, length, drop, Bool, true, false, ◌&&◌, refl, sym, ap, ap₂, ◌∙◌, subst, arith, eqb, ne_eqb, length-append}
-use Rattle.std.specs.Prelude.{Option, Some, None, option_map, if◌then◌else◌}
+use Rattle.std.specs.Prelude.{slice_get, Option, Some, None, option_map, if◌then◌else◌}
 use Rattle.std.proofs.lemmas.Bool.Decides.{eqb_tells}
-use Rattle.rooms.specs.Rooms.{Membership, Roomed, AreRoomier, AreTold, HaveRoom, IsRoomier, IsTold, Joins, Moves, Pops, member, posted, posted_in, without_first as rest_of}
+use Rattle.rooms.specs.Rooms.{Membership, Roomed, AreRoomier, AreTold, HaveRoom, first_posted, IsRoomier, IsTold, Joins, Moves, Pops, member, posted, posted_in, without_first as rest_of}
 use Rattle.journal_entries.specs.declared.update.Update.{Update}
 use Rattle.journal_entries.specs.declared.update.Outcome.{Outcome}
 use Rattle.journal_entries.specs.declared.update.Outcome.TheVariants.{Applied, Dup, Refused}
@@ -12,15 +12,21 @@ use Rattle.journal_entries.specs.declared.act.Act.TheVariants.{Joined as JoinedA
 use Rattle.journal_entries.specs.declared.act.Entry.{Entry}
 use Rattle.journal_rules.specs.Client.{is_of}
 use Rattle.journal_rules.specs.Documents.{IsMade, sends, ticket_of, update_at, waiting}
-use Rattle.journal_rules.specs.Legal.{IsAllowed, IsLegal}
-use Rattle.journal_rules.proofs.Legality.{legal_push}
-use Rattle.journal_rules.proofs.Waits.{committed_below, one_if, waiting-committed, waiting-more}
-use Rattle.mail_places.specs.Places.{LeavesPlaces, Placed, placed, placed_by, placed_in, placed_of, placed_own, with_place, without_first}
+use Rattle.journal_rules.specs.Legal.{IsLegal}
+use Rattle.journal_rules.proofs.Waits.{committed_below, one_if, waiting-committed, waiting-committed_other, waiting-more}
+use Rattle.mail_places.specs.Places.{IsMailIn, LeavesPlaces, Placed, placed, placed_by, placed_in, told_at, placed_of, placed_own, with_place, without_first}
 use Rattle.mail_places.proofs.Placing.{placed-none, placed-push, placed-same}
 use Rattle.mail_places.proofs.Sources.{own_update}
+use Rattle.mail_places.proofs.Telling.{first_mail, mail_at_places, no_mail}
+use Rattle.journal_entries.specs.declared.message.Msg.{Msg}
+use Rattle.journal_rules.specs.Mail.{mail}
+use Rattle.std.specs.Option.{option_and_then}
 use Rattle.mail_places.proofs.Committing.{placed-committed}
+use Rattle.book.specs.declared.document.Document.{Document}
+use Rattle.book.specs.Standing.{AreDocuments, IsKeptAs, Turns}
+use Rattle.book.proofs.Lists.{same_item, set_get}
 use Rattle.book.specs.Roomed.{AreRoomed, AreSourced, IsMember, IsThere, posted_by, posted_own}
-use Rattle.book.proofs.Keeping.{waits_none, waits_on}
+use Rattle.book.proofs.Keeping.{waits_none}
 
 there_by : (a a' : Option Membership) (b b' : Option Placed) (j : List Entry) → a' ≡ a → b' ≡ b → IsThere a b j → IsThere a' b' j
 there_by a a' b b' j is at there = rw (is, at) there
@@ -47,6 +53,11 @@ pub roomed_quiet : (rooms : Roomed) (j : List Entry) (e : Entry) → IsLegal j �
 roomed_quiet rooms j e legal leaves none unsent were c =
     there_by (member c rooms) (member c rooms) (placed c j) (placed c (j ++ e ∷ [])) (j ++ e ∷ []) refl (placed-same c j e leaves)
     (there_kept (member c rooms) (placed c j) j (j ++ e ∷ []) (λ d. let w = ap length (waits_none d j e legal none (unsent d)) in omega (arith, w)) (were c))
+
+-- by an entry whose act says so
+pub roomed_quiet_by : (rooms : Roomed) (j mid k : List Entry) (seat : ℕ) (line : Option ℕ) (act : Act) (e : Entry) → e ≡ record { seat = seat; line = line; act = act } → mid ≡ j → k ≡ mid ++ e ∷ [] → IsLegal j → LeavesPlaces act → ticket_of act ≡ [] → ((d : ℕ) → sends d act ≡ false) → AreRoomed rooms j → AreRoomed rooms k
+roomed_quiet_by rooms j mid k seat line act e e_is same more legal leaves none unsent were =
+    subst (AreRoomed rooms) (sym (more ∙ ap₂ (λ (l : List Entry) (x : Entry). l ++ x ∷ []) same e_is)) (roomed_quiet rooms j (record { seat = seat; line = line; act = act }) legal leaves none unsent were)
 
 -- ---- room was made
 there_roomier : (a a' : Option Membership) (b : Option Placed) (j : List Entry) → AreRoomier a a' → IsThere a b j → IsThere a' b j
@@ -97,6 +108,13 @@ roomed_sent rooms j e u legal is room were c =
     by None at (Some box) there = absurd there
     by (Some m) at None there = absurd there
 
+-- the room that was made for an update is that for what waits by the journal, and one more
+pub told_room : (rooms : Roomed) (j : List Entry) (documents documents' : List Document) (doc : ℕ) → AreDocuments documents j → Turns doc IsKeptAs documents documents'
+    → ((d : Document) → slice_get documents' doc ≡ Some d → HaveRoom doc (length d.waiting.items + 1) rooms) → HaveRoom doc (length (waiting doc j) + 1) rooms
+told_room rooms j documents documents' doc were t room =
+    subst (λ n. HaveRoom doc (n + 1) rooms) (ap length (t.is.waiting_is ∙ (were.each doc t.was t.at).waiting_is))
+    (room t.now (ap (λ l. slice_get l doc) t.set_is ∙ set_get documents doc t.was t.now t.at))
+
 -- ---- a commit is told
 -- whoever is in the room of a document for which something waits has room for one place more
 pub room_for_one : (rooms : Roomed) (j : List Entry) (doc ticket : ℕ) (rest : List ℕ) → waiting doc j ≡ ticket ∷ rest → AreRoomed rooms j → HaveRoom doc 1 rooms
@@ -117,9 +135,9 @@ sourced rooms j ticket u legal named were c m at own = by (placed c j) refl (sub
     by None is there = absurd there
     by (Some box) is there = there.doc_is ∙ sym (own_update c j legal box is ticket u named (sym own ∙ there.source_is)).1
 
-module _ (j : List Entry) (e : Entry) (doc token ticket : ℕ) (outcome : Outcome) (u : Update) (rest : List ℕ) (legal : IsLegal j) (may : IsAllowed j e.seat e.act) (is : e.act ≡ Committed doc token ticket outcome)
+module _ (j : List Entry) (e : Entry) (doc token ticket : ℕ) (outcome : Outcome) (u : Update) (rest : List ℕ) (legal : IsLegal j) (is : e.act ≡ Committed doc token ticket outcome)
     (first : waiting doc j ≡ ticket ∷ rest) (named : update_at j ticket ≡ Some u) (own : u.doc ≡ doc) where
-  k : List Entry
+  abbrev k : List Entry
   k = j ++ e ∷ []
 
   one_less : length (waiting doc k) + 1 ≡ length (waiting doc j)
@@ -130,7 +148,7 @@ module _ (j : List Entry) (e : Entry) (doc token ticket : ℕ) (outcome : Outcom
     where
       by : ((eqb doc d ≡ true) × (doc ≡ d)) ⊎ ((eqb doc d ≡ false) × (doc ≢ d)) → length (waiting d k) ≤ length (waiting d j)
       by (inl t) = subst (λ n. length (waiting n k) ≤ length (waiting n j)) t.1 (let o = one_less in omega (arith, o))
-      by (inr t) = let w = ap length (waits_on d j e (Committed doc token ticket outcome) is legal (subst (IsAllowed j e.seat) is may) t.1) in omega (arith, w)
+      by (inr t) = let w = ap length (waiting-committed_other d doc j e ticket rest (λ h. t.1 (sym h)) (ap (sends d) is) (ap ticket_of is) first) in omega (arith, w)
 
   -- told of it, or not
   told : (m : Membership) (box : Placed) → box.doc ≡ doc → IsMember m box j → IsMember (posted (length j) m) (with_place (length j) box) k
@@ -180,11 +198,14 @@ module _ (j : List Entry) (e : Entry) (doc token ticket : ℕ) (outcome : Outcom
   all_told c None (Some box) at there = absurd there
   all_told c (Some m) None at there = absurd there
 
-  pub roomed_committed : (rooms rooms' : Roomed) → ((c : ℕ) → member c rooms' ≡ option_map (posted_by c u (length j) outcome) (member c rooms)) → AreRoomed rooms j → AreRoomed rooms' (j ++ e ∷ [])
-  roomed_committed rooms rooms' posts were c =
+  committed : (rooms rooms' : Roomed) → IsLegal (j ++ e ∷ []) → ((c : ℕ) → member c rooms' ≡ option_map (posted_by c u (length j) outcome) (member c rooms)) → AreRoomed rooms j → AreRoomed rooms' (j ++ e ∷ [])
+  committed rooms rooms' grown posts were c =
       there_by (option_map (posted_by c u (length j) outcome) (member c rooms)) (member c rooms') (option_map (placed_of c u (length j) outcome) (placed c j)) (placed c k) k (posts c)
-      (placed-committed c j e doc token ticket outcome u (legal_push j e legal may) is named)
+      (placed-committed c j e doc token ticket outcome u grown is named)
       (all_told c (member c rooms) (placed c j) refl (were c))
+
+  pub roomed_committed : (rooms rooms' : Roomed) (after : List Entry) → after ≡ j ++ e ∷ [] → IsLegal after → ((c : ℕ) → member c rooms' ≡ option_map (posted_by c u (length j) outcome) (member c rooms)) → AreRoomed rooms j → AreRoomed rooms' after
+  roomed_committed rooms rooms' after more grown posts were = subst (AreRoomed rooms') (sym more) (committed rooms rooms' (subst IsLegal more grown) posts were)
 
 -- ---- a client joins
 pub roomed_joined : (rooms rooms' : Roomed) (j : List Entry) (e : Entry) (client doc v source room : ℕ) (user : List ℕ) (track : Bool) (since : Option ℕ) → IsLegal j → e.act ≡ JoinedAct client doc user track since source v → length (waiting doc j) ≤ room
@@ -245,3 +266,43 @@ roomed_got rooms rooms' j e client brief legal is pops were c = by (eqb_tells cl
     by (inr t) =
         there_by (member c rooms) (member c rooms') (placed c j) (placed c k) k (pops.2.others c (λ h. t.1 (sym h))) (next ∙ ap (λ b. if b then option_map without_first (placed c j) else placed c j) t.0)
         (there_kept (member c rooms) (placed c j) j k less (were c))
+
+-- ---- what is first in an outbox
+first_of : (l : List ℕ) (place : ℕ) → slice_get l 0 ≡ Some place → (rest : List ℕ) × (l ≡ place ∷ rest)
+first_of [] place is = absurd (cc)
+first_of (x ∷ xs) place is = (xs, ap (λ n. n ∷ xs) (same_item x place is))
+
+-- is what the client is told first
+pub first_told : (rooms : Roomed) (j : List Entry) (c place source : ℕ) → IsLegal j → AreRoomed rooms j → option_and_then first_posted (member c rooms) ≡ Some place → option_map (λ (m : Membership). m.source) (member c rooms) ≡ Some source
+    → (m : Msg) × (rest : List Msg) × (told_at j source place ≡ Some m) × (mail c j ≡ m ∷ rest)
+first_told rooms j c place source legal were next under = by (member c rooms) (placed c j) refl (were c) next under
+  where
+    by : (a : Option Membership) (b : Option Placed) → placed c j ≡ b → IsThere a b j → option_and_then first_posted a ≡ Some place → option_map (λ (m : Membership). m.source) a ≡ Some source → (m : Msg) × (rest : List Msg) × (told_at j source place ≡ Some m) × (mail c j ≡ m ∷ rest)
+    by (Some m) (Some box) is there next under =
+        let f = first_of m.outbox place next in
+        subst (λ n. (m : Msg) × (rest : List Msg) × (told_at j n place ≡ Some m) × (mail c j ≡ m ∷ rest)) (sym there.source_is ∙ same_item m.source source under)
+        (first_mail c j legal box is place f.0 (sym there.outbox_is ∙ f.1))
+    by None b is there next under = absurd (cc)
+    by (Some m) None is there next under = absurd there
+
+-- and where nothing is, it has no mail
+pub none_told : (rooms : Roomed) (j : List Entry) (c : ℕ) → IsLegal j → AreRoomed rooms j → option_and_then first_posted (member c rooms) ≡ None → mail c j ≡ []
+none_told rooms j c legal were none = by (member c rooms) (placed c j) refl (were c) none
+  where
+    empty : (l : List ℕ) → slice_get l 0 ≡ None → l ≡ []
+    empty [] is = refl
+    empty (x ∷ xs) is = absurd (cc)
+
+    by : (a : Option Membership) (b : Option Placed) → placed c j ≡ b → IsThere a b j → option_and_then first_posted a ≡ None → mail c j ≡ []
+    by (Some m) (Some box) is there none = no_mail c j legal box is (sym there.outbox_is ∙ empty m.outbox none)
+    by None None is there none = (subst (IsMailIn c j) is (mail_at_places c j legal)).1
+    by None (Some box) is there none = absurd there
+    by (Some m) None is there none = absurd there
+
+-- a client that gets something is in a room
+pub sourced_if_told : (rooms : Roomed) (c place : ℕ) → option_and_then first_posted (member c rooms) ≡ Some place → option_map (λ (m : Membership). m.source) (member c rooms) ≡ None → ⊥
+sourced_if_told rooms c place next none = by (member c rooms) next none
+  where
+    by : (a : Option Membership) → option_and_then first_posted a ≡ Some place → option_map (λ (m : Membership). m.source) a ≡ None → ⊥
+    by None next none = absurd (cc)
+    by (Some m) next none = absurd (cc)

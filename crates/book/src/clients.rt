@@ -1,6 +1,6 @@
 //! The calls of a book for clients.
 
-ghost use Rattle.std.specs.Prelude.{◌≡◌, ◌≤◌, ◌+◌, ◌∷◌, [], length, slice_get, IfOk, IfErr, IfSome, OnOk, OnErr, None, Some};
+ghost use Rattle.std.specs.Prelude.{◌≡◌, ◌<◌, ◌^◌, ◌+◌, ◌∷◌, [], length, slice_get, IfOk, IfErr, IfSome, OnOk, OnErr, None, Some};
 ghost use Rattle.journal_entries.specs.declared.act.Act.TheVariants.{Joined, Edited, Sent, Got};
 ghost use Rattle.journal_rules.specs.Documents.{IsMade, version};
 ghost use Rattle.journal_rules.specs.Legal.{brief_of, source_at};
@@ -8,7 +8,7 @@ ghost use Rattle.journal_rules.specs.Locks.{clock};
 ghost use Rattle.journal_rules.specs.Mail.{mail};
 ghost use Rattle.journal_rules.specs.Client.{update_from};
 ghost use Rattle.share_client.specs.Clients.{send_fault, told_send};
-ghost use Rattle.share_client.specs.Edits.{IsEdit, IsRefusal, edit_comp, edit_fault};
+ghost use Rattle.share_client.specs.Edits.{IsEdit, IsRefusal, edit_comp, edit_fault, edit_length};
 ghost use Rattle.book.specs.Shown.{adds};
 ghost use Rattle.book.specs.Roomed.{IsClientAfter, IsClientOf};
 ghost use Rattle.book.specs.Calls.{MayNotJoin};
@@ -90,9 +90,14 @@ impl Book {
         ensures refused { IfErr result (λ f. IsRefusal client.old.now edit.now f) }
         ensures kept { OnErr result ((self.new ≡ self.old) × (client.new ≡ client.old)) }
     {
+        if client.state() != ClientState::Joined {
+            return Err(EditFault::NotJoined);
+        }
         let Ok(_sum) = make_room(&mut self.journal, self.owed, 1) else {
             return Err(EditFault::Memory);
         };
+        // No text is so long that the units of what is pending can't be counted.
+        let _units = units_of_edit(edit);
         let comp = client.edit(edit)?;
         let client = client.client();
         self.journal
@@ -129,6 +134,7 @@ impl Book {
         let Ok(()) = reserve_waiting(&mut self.documents, &mut self.rooms, doc) else {
             return Err(SendFault::Memory);
         };
+        let ticket = self.journal.len();
         let sent = client.take_send()?;
         let update = Update {
             doc,
@@ -142,7 +148,6 @@ impl Book {
             v: sent.v,
             op: sent.op,
         };
-        let ticket = self.journal.len();
         self.documents.queue(doc as usize, ticket);
         self.journal.push(entry_of(by, Act::Sent { update }));
         self.owed = sum - 1;
@@ -164,14 +169,18 @@ impl Book {
         ensures kept { OnErr result ((self.new ≡ self.old) × (client.new ≡ client.old)) }
     {
         let number = client.client();
-        let (Some(place), Some(source)) = (self.rooms.next(number), self.rooms.source(number))
-        else {
+        let Some(place) = self.rooms.next(number) else {
             return Ok(None);
+        };
+        let Some(source) = self.rooms.source(number) else {
+            unreachable!()
         };
         let entries = self.journal.as_slice();
         let Some(message) = message_at(self.alloc, entries, source, place)? else {
             unreachable!()
         };
+        // No journal is so long that a version could pass 2^64.
+        let _length = self.journal.len();
         let _sum = make_room(&mut self.journal, self.owed, 1)?;
         client.on_message(&message)?;
         let _place = self.rooms.pop(number);
@@ -201,6 +210,16 @@ fn refused_send(client: &ShareClient) -> Option<SendFault>
         return Some(SendFault::Nothing);
     }
     None
+}
+
+fn units_of_edit(edit: &Edit) -> u64
+    ensures value { result ≡ edit_length edit.now }
+    ensures small { result < 2 ^ 63 }
+{
+    match edit {
+        Edit::Insert { text, .. } => text.len() as u64,
+        Edit::Delete { len, .. } | Edit::Comment { len, .. } => *len as u64,
+    }
 }
 
 fn brief(message: &Msg) -> Brief

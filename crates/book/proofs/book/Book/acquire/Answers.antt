@@ -15,6 +15,8 @@ use Rattle.journal_rules.specs.Locks.{next_token, used}
 use Rattle.book.specs.Standing.{IsLocked}
 use Rattle.book.specs.Looking.{IsLook}
 use Rattle.book.proofs.Keeping.{here_acquired}
+use Rattle.book.proofs.Roomed.{roomed_quiet_by}
+use Rattle.journal_sizes.proofs.Updates.{update_sized}
 use Rattle.book.proofs.Lists.{same_item}
 use Rattle.book.proofs.Acquirings.{next_unused}
 use Rattle.book.proofs.Tokens.{acquirings_short}
@@ -89,9 +91,12 @@ invariant_of-self-2 c =
     let made : IsMade c.args.doc (entries s.journal) = omega (arith, count, within) in
     let may = may_acquire c.args.doc s.moment (s.moment + LOCK_LIFE) x (entries s.journal) made (c.self.invariant.book.stands.each c.args.doc x at) c.self.invariant.book.now_is refl free in
     let row = subst (λ n. IsAcquiring (entries s.journal) c.args.doc (n + 1) (s.moment + LOCK_LIFE)) (sym c.self.invariant.book.tokens_are) may in
-    acquired_book s.journal c.make_room.new.journal c.push.new.self items c.take-until.new.self.items s.moment s.tokens s.owed s.drivers c.in-Ok-make_room.sum c.args.doc (s.moment + LOCK_LIFE) c.args.by.seat c.entry_of.result
+    record {
+      book = acquired_book s.journal c.make_room.new.journal c.push.new.self items c.take-until.new.self.items s.moment s.tokens s.owed s.drivers c.in-Ok-make_room.sum c.args.doc (s.moment + LOCK_LIFE) c.args.by.seat c.entry_of.result
     c.self.invariant.book c.take-until.ensures.names c.make_room.ensures.entries c.in-Ok-make_room.ensures.room c.push.ensures.entries c.push.ensures.spare (ap (λ (e : Entry). e.seat) c.entry_of.ensures)
-    (ap (λ (e : Entry). e.act) c.entry_of.ensures ∙ ap (λ n. Acquired c.args.doc (s.tokens + 1) n) c.take-until.ensures.until) row c.take-until.ensures.taken
+    (ap (λ (e : Entry). e.act) c.entry_of.ensures ∙ ap (λ n. Acquired c.args.doc (s.tokens + 1) n) c.take-until.ensures.until) row c.take-until.ensures.taken;
+      roomed = roomed_quiet_by s.rooms (entries s.journal) (entries c.make_room.new.journal) (entries c.push.new.self) c.args.by.seat c.args.by.line (Acquired c.args.doc (s.tokens + 1) c.take-until.result) c.entry_of.result c.entry_of.ensures c.make_room.ensures.entries c.push.ensures.entries c.self.invariant.book.stands.legal tt refl (λ d. refl) c.self.invariant.roomed;
+    }
 
 pub returns-in_default-look-clause-refused : goal.returns-in_default-look-clause-refused
 returns-in_default-look-clause-refused c =
@@ -132,9 +137,9 @@ returns-clause-ready c =
     let u = c.in-Some-update_at.update.now in
     let named : update_at (entries s.journal) c.in-Some-front.field-0.now ≡ Some u = sym (ap (λ l. update_at l c.in-Some-front.field-0.now) c.as_slice.ensures) ∙ sym c.update_at.ensures ∙ ap option_copied c.in-Some-update_at.is in
     let can = is_decidable c.args.doc x (entries s.journal) (c.self.invariant.book.stands.each c.args.doc x at) in
-    let raw = c.self.invariant.book.stands.raw c.in-Some-front.field-0.now u named in
+    let sized = update_sized c.in-Some-front.field-0.now u (entries s.journal) c.self.invariant.book.stands.legal named in
     let look = c.in-Ok.ensures.look in
-    record { agrees = agrees x u c.in-Ok.look look can; short = short_look x u c.in-Ok.look look can; ready = λ within. ready x u c.in-Ok.look look can raw within }
+    record { agrees = agrees x u c.in-Ok.look look can; short = short_look x u c.in-Ok.look look can; ready = λ within. ready x u c.in-Ok.look look can sized within }
 
 pub returns-clause-looks : goal.returns-clause-looks
 returns-clause-looks c =

@@ -1,5 +1,8 @@
-use Rattle.std.proofs.Common.{rules, ◌<◌, sym, subst, arith}
+use Rattle.std.proofs.Common.{rules, ◌<◌, refl, sym, subst, arith}
 use Rattle.book.specs.Shown.{Shown, driver_count}
+use Rattle.book.proofs.Roomed.{roomed_quiet_by}
+use Rattle.journal_entries.specs.Journals.{entries}
+use Rattle.journal_entries.specs.declared.act.Act.TheVariants.{Closed}
 use Rattle.book.proofs.Booking.{closed_book, driver_owed}
 use Rattle.book.proofs.book.Book.close_driver.Goals as goal
 
@@ -21,4 +24,7 @@ pub invariant_of-self : goal.invariant_of-self
 invariant_of-self c =
     let s = c.self.inside in
     let below = subst (λ (v : Shown). c.args.driver < driver_count v.drivers) (sym c.self.view_is) c.requires.one in
-    closed_book s.journal c.push.new.self s.documents.items s.moment s.tokens s.owed s.drivers c.args.driver c.entry_of.result c.self.invariant.book c.push.ensures.entries c.push.ensures.spare (search rules) below (search (rules, c.requires.once, c.self.view_is))
+    record {
+      book = closed_book s.journal c.push.new.self s.documents.items s.moment s.tokens s.owed s.drivers c.args.driver c.entry_of.result c.self.invariant.book c.push.ensures.entries c.push.ensures.spare (search rules) below (search (rules, c.requires.once, c.self.view_is));
+      roomed = roomed_quiet_by s.rooms (entries s.journal) (entries s.journal) (entries c.push.new.self) c.args.by.seat c.args.by.line (Closed c.args.driver) c.entry_of.result c.entry_of.ensures refl c.push.ensures.entries c.self.invariant.book.stands.legal tt refl (λ d. refl) c.self.invariant.roomed;
+    }

@@ -1,8 +1,16 @@
-use Rattle.std.proofs.Common.{◌∙◌, refl, sym, ap, subst, arith, [], ◌∷◌, ◌++◌}
+use Rattle.std.proofs.Common.{◌≡◌, ◌∙◌, refl, sym, ap, subst, arith, [], ◌∷◌, ◌++◌}
 use Rattle.std.specs.Prelude.{Some, None}
 use Rattle.journal_entries.specs.Journals.{entries}
 use Rattle.journal_entries.specs.declared.act.Act.TheVariants.{Committed}
 use Rattle.journal_entries.specs.declared.act.Entry.{Entry}
+use Rattle.std.specs.Option.{option_copied, option_map}
+use Rattle.rooms.specs.Rooms.{HaveRoom, member}
+use Rattle.journal_entries.specs.declared.update.Update.{Update}
+use Rattle.journal_rules.specs.Documents.{update_at}
+use Rattle.journal_rules.proofs.Waits.{waits_sent}
+use Rattle.book.specs.Roomed.{posted_by}
+use Rattle.book.proofs.Lists.{same_item}
+use Rattle.book.proofs.Roomed.{room_for_one, roomed_committed, sourced}
 use Rattle.book.specs.Looking.{IsOf}
 use Rattle.book.specs.Shown.{Shown}
 use Rattle.book.proofs.Fenced.{first}
@@ -71,8 +79,19 @@ invariant_of-self c =
     let look = c.args.prepared.look in
     let none = told_by s.journal s.documents.items s.moment s.tokens s.owed s.drivers look.doc look.token c.self.invariant.book None (omega (arith, len, low)) (λ d at. c.check.ensures d at ∙ c.in_default.is) in
     let of = subst (λ (v : Shown). IsOf look v.journal) (sym c.self.view_is) c.requires.looked in
-    committed_book s.journal c.push.new.self s.documents.items c.settle-outcome.new.self.items s.moment s.tokens s.owed s.drivers c.args.by.seat look c.args.prepared.decision c.entry_of.result c.self.invariant.book c.settle-outcome.ensures.names c.push.ensures.entries c.push.ensures.spare
-    (ap (λ (e : Entry). e.seat) c.entry_of.ensures) c.requires.seat (ap (λ (e : Entry). e.act) c.entry_of.ensures ∙ ap (λ o. Committed look.doc look.token look.ticket o) c.settle-outcome.ensures.outcome) of none c.requires.decided c.settle-outcome.ensures.settled
+    let j = entries s.journal in
+    let u = c.in-Some-update_at.update.now in
+    let named : update_at j look.ticket ≡ Some u = sym (ap (λ l. update_at l look.ticket) c.as_slice.ensures) ∙ sym c.update_at.ensures ∙ ap option_copied c.in-Some-update_at.is in
+    let sent = waits_sent look.doc look.ticket j _ (first look j c.self.invariant.book.stands.legal of none) in
+    let own : u.doc ≡ look.doc = ap (λ (x : Update). x.doc) (same_item u sent.0 (sym named ∙ sent.1)) ∙ sent.2 in
+    let act = ap (λ (e : Entry). e.act) c.entry_of.ensures in
+    let book = committed_book s.journal c.push.new.self s.documents.items c.settle-outcome.new.self.items s.moment s.tokens s.owed s.drivers c.args.by.seat look c.args.prepared.decision c.entry_of.result c.self.invariant.book c.settle-outcome.ensures.names c.push.ensures.entries c.push.ensures.spare
+    (ap (λ (e : Entry). e.seat) c.entry_of.ensures) c.requires.seat (ap (λ (e : Entry). e.act) c.entry_of.ensures ∙ ap (λ o. Committed look.doc look.token look.ticket o) c.settle-outcome.ensures.outcome) of none c.requires.decided c.settle-outcome.ensures.settled in
+    record {
+      book = book;
+      roomed = roomed_committed j c.entry_of.result look.doc look.token look.ticket c.settle-outcome.result u _ c.self.invariant.book.stands.legal act (first look j c.self.invariant.book.stands.legal of none) named own s.rooms c.post.new.rooms (entries c.push.new.self) c.push.ensures.entries book.stands.legal
+          (λ k. c.post.ensures k ∙ ap (λ n. option_map (posted_by k u n c.settle-outcome.result) (member k s.rooms)) c.len-length.ensures.value) c.self.invariant.roomed;
+    }
 
 pub returns-clause-ok : goal.returns-clause-ok
 returns-clause-ok c =
@@ -86,3 +105,46 @@ returns-clause-ok c =
     let is = c.settle-outcome.ensures.outcome ∙ decided_now (entries s.journal) s.documents.items t.was look c.args.prepared.decision c.self.invariant.book.stands t.at of none c.requires.decided in
     let e = c.entry_of.ensures ∙ ap (λ o. record { seat = c.args.by.seat; line = c.args.by.line; act = Committed look.doc look.token look.ticket o }) is in
     rw (← c.self.view_is) (none, ap (λ l. record { journal = l; drivers = s.drivers }) (c.push.ensures.entries ∙ ap (λ (x : Entry). entries s.journal ++ x ∷ []) e))
+
+pub unreachable-requires : goal.unreachable-requires
+unreachable-requires c =
+    let s = c.self.inside in
+    let j = entries s.journal in
+    let len = c.len.ensures in
+    let low = c.if-at-len.false in
+    let look = c.args.prepared.look in
+    let none = told_by s.journal s.documents.items s.moment s.tokens s.owed s.drivers look.doc look.token c.self.invariant.book None (omega (arith, len, low)) (λ d at. c.check.ensures d at ∙ c.in_default.is) in
+    let of = subst (λ (v : Shown). IsOf look v.journal) (sym c.self.view_is) c.requires.looked in
+    let sent = waits_sent look.doc look.ticket j _ (first look j c.self.invariant.book.stands.legal of none) in
+    let f : None ≡ Some sent.0 = sym (ap option_copied c.in_default-update_at.is) ∙ c.update_at.ensures ∙ ap (λ l. update_at l look.ticket) c.as_slice.ensures ∙ sent.1 in
+    absurd (cc)
+
+pub post-requires-clause-room : goal.post-requires-clause-room
+post-requires-clause-room c =
+    let s = c.self.inside in
+    let j = entries s.journal in
+    let len = c.len.ensures in
+    let low = c.if-at-len.false in
+    let look = c.args.prepared.look in
+    let none = told_by s.journal s.documents.items s.moment s.tokens s.owed s.drivers look.doc look.token c.self.invariant.book None (omega (arith, len, low)) (λ d at. c.check.ensures d at ∙ c.in_default.is) in
+    let of = subst (λ (v : Shown). IsOf look v.journal) (sym c.self.view_is) c.requires.looked in
+    let u = c.in-Some-update_at.update.now in
+    let named : update_at j look.ticket ≡ Some u = sym (ap (λ l. update_at l look.ticket) c.as_slice.ensures) ∙ sym c.update_at.ensures ∙ ap option_copied c.in-Some-update_at.is in
+    let sent = waits_sent look.doc look.ticket j _ (first look j c.self.invariant.book.stands.legal of none) in
+    let own : u.doc ≡ look.doc = ap (λ (x : Update). x.doc) (same_item u sent.0 (sym named ∙ sent.1)) ∙ sent.2 in
+    subst (λ n. HaveRoom n 1 s.rooms) (sym own) (room_for_one s.rooms j look.doc look.ticket _ (first look j c.self.invariant.book.stands.legal of none) c.self.invariant.roomed)
+
+pub post-requires-clause-sourced : goal.post-requires-clause-sourced
+post-requires-clause-sourced c =
+    let s = c.self.inside in
+    let j = entries s.journal in
+    let len = c.len.ensures in
+    let low = c.if-at-len.false in
+    let look = c.args.prepared.look in
+    let none = told_by s.journal s.documents.items s.moment s.tokens s.owed s.drivers look.doc look.token c.self.invariant.book None (omega (arith, len, low)) (λ d at. c.check.ensures d at ∙ c.in_default.is) in
+    let of = subst (λ (v : Shown). IsOf look v.journal) (sym c.self.view_is) c.requires.looked in
+    let u = c.in-Some-update_at.update.now in
+    let named : update_at j look.ticket ≡ Some u = sym (ap (λ l. update_at l look.ticket) c.as_slice.ensures) ∙ sym c.update_at.ensures ∙ ap option_copied c.in-Some-update_at.is in
+    let sent = waits_sent look.doc look.ticket j _ (first look j c.self.invariant.book.stands.legal of none) in
+    let own : u.doc ≡ look.doc = ap (λ (x : Update). x.doc) (same_item u sent.0 (sym named ∙ sent.1)) ∙ sent.2 in
+    sourced s.rooms j look.ticket u c.self.invariant.book.stands.legal named c.self.invariant.roomed

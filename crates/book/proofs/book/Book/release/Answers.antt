@@ -1,10 +1,13 @@
-use Rattle.std.proofs.Common.{rules, ◌≡◌, ◌∙◌, sym, ap, subst, arith, length}
+use Rattle.std.proofs.Common.{rules, ◌≡◌, ◌∙◌, refl, sym, ap, subst, arith, length}
 use Rattle.std.specs.Prelude.{Some, None, nat_lt}
 use Rattle.journal_entries.specs.declared.act.Entry.{Entry}
 use Rattle.journal_rules.specs.Documents.{waiting}
 use Rattle.journal_rules.specs.Locks.{Holds}
 use Rattle.turn_rules.specs.Locking.{staleness}
 use Rattle.book.specs.Shown.{Shown}
+use Rattle.book.proofs.Roomed.{roomed_quiet_by}
+use Rattle.journal_entries.specs.Journals.{entries}
+use Rattle.journal_entries.specs.declared.act.Act.TheVariants.{Released}
 use Rattle.book.proofs.Locking.{told_by, told_unmade, held_owed, stands_in, released_book}
 use Rattle.book.proofs.book.Book.release.Goals as goal
 
@@ -49,7 +52,10 @@ invariant_of-self c =
     let none = told_by s.journal s.documents.items s.moment s.tokens s.owed s.drivers c.args.doc c.args.token c.self.invariant.book None (omega (arith, len, low)) (λ d at. c.check.ensures d at ∙ c.in_default.is) in
     let may = subst (λ (v : Shown). staleness c.args.doc c.args.token v.journal ≡ None → Holds c.args.by.seat c.args.doc c.args.token v.journal) (sym c.self.view_is) c.requires.may none in
     let held = stands_in c.let_go.ensures.freed.was.lock c.args.token (c.check.ensures c.let_go.ensures.freed.was c.let_go.ensures.freed.at ∙ c.in_default.is) in
-    released_book s.journal c.push.new.self s.documents.items c.let_go.new.self.items s.moment s.tokens s.owed s.drivers c.args.doc c.args.token c.args.by.seat c.entry_of.result c.self.invariant.book c.let_go.ensures.names c.push.ensures.entries c.push.ensures.spare (ap (λ (e : Entry). e.seat) c.entry_of.ensures) (ap (λ (e : Entry). e.act) c.entry_of.ensures) may c.let_go.ensures.freed held.1
+    record {
+      book = released_book s.journal c.push.new.self s.documents.items c.let_go.new.self.items s.moment s.tokens s.owed s.drivers c.args.doc c.args.token c.args.by.seat c.entry_of.result c.self.invariant.book c.let_go.ensures.names c.push.ensures.entries c.push.ensures.spare (ap (λ (e : Entry). e.seat) c.entry_of.ensures) (ap (λ (e : Entry). e.act) c.entry_of.ensures) may c.let_go.ensures.freed held.1;
+      roomed = roomed_quiet_by s.rooms (entries s.journal) (entries s.journal) (entries c.push.new.self) c.args.by.seat c.args.by.line (Released c.args.doc c.args.token) c.entry_of.result c.entry_of.ensures refl c.push.ensures.entries c.self.invariant.book.stands.legal tt refl (λ d. refl) c.self.invariant.roomed;
+    }
 
 pub returns-clause-ok : goal.returns-clause-ok
 returns-clause-ok c =

@@ -1,5 +1,5 @@
-use Rattle.std.proofs.Common.{refl, sym, ap, subst, arith, List}
-use Rattle.std.specs.Prelude.{IfOk}
+use Rattle.std.proofs.Common.{◌≡◌, ◌+◌, ◌∙◌, length, refl, sym, ap, subst, arith, List}
+use Rattle.std.specs.Prelude.{slice_get, IfOk, Some}
 use Rattle.journal_entries.specs.Journals.{entries}
 use Rattle.journal_entries.specs.declared.act.Act.TheVariants.{Malformed, Sent}
 use Rattle.journal_rules.specs.Documents.{IsMade}
@@ -10,9 +10,12 @@ use Rattle.journal_entries.specs.declared.update.Update.{Update}
 use Rattle.journal_entries.specs.declared.act.Entry.{Entry}
 use Rattle.journal_rules.specs.Legal.{IsAllowed, IsRaw, IsRawUpdate}
 use Rattle.book.specs.Calls.{update_by}
-use Rattle.book.specs.Standing.{Turns, IsQueued}
-use Rattle.book.proofs.Booking.{quiet_by, sent_book, same_book, kept_owes}
-use Rattle.book.proofs.Keeping.{kept_same}
+use Rattle.book.specs.declared.document.Document.{Document}
+use Rattle.rooms.specs.Rooms.{HaveRoom}
+use Rattle.book.specs.Standing.{IsKeptAs, IsQueued, Turns}
+use Rattle.book.proofs.Booking.{quiet_by}
+use Rattle.book.proofs.Roomed.{roomed_quiet_by}
+use Rattle.book.proofs.Sending.{queued_book, reserved_book}
 use Rattle.book.proofs.book.Book.send_raw.Goals as goal
 
 pub invariant_of-self-in-Err : goal.invariant_of-self-in-Err
@@ -21,15 +24,17 @@ invariant_of-self-in-Err c =
     let count = c.self.invariant.book.stands.count in
     let within = c.if-doc-len.false in
     let len = c.len.ensures in
-    quiet_by s.journal c.make_room.new.journal c.push.new.self s.documents.items s.moment s.moment s.tokens s.owed s.drivers c.in-Ok-make_room._sum c.args.by.seat c.args.by.line (Malformed c.args.raw.now.doc c.in-Err.fault) c.entry_of.result c.entry_of.ensures
-    c.self.invariant.book c.make_room.ensures.entries c.in-Ok-make_room.ensures.room c.push.ensures.entries c.push.ensures.spare (omega (arith, count, within, len)) tt refl refl c.self.invariant.book.now_low
+    record {
+      book = quiet_by s.journal c.make_room.new.journal c.push.new.self s.documents.items s.moment s.moment s.tokens s.owed s.drivers c.in-Ok-make_room._sum c.args.by.seat c.args.by.line (Malformed c.args.raw.now.doc c.in-Err.fault) c.entry_of.result c.entry_of.ensures
+    c.self.invariant.book c.make_room.ensures.entries c.in-Ok-make_room.ensures.room c.push.ensures.entries c.push.ensures.spare (omega (arith, count, within, len)) tt refl refl c.self.invariant.book.now_low;
+      roomed = roomed_quiet_by s.rooms (entries s.journal) (entries c.make_room.new.journal) (entries c.push.new.self) c.args.by.seat c.args.by.line (Malformed c.args.raw.now.doc c.in-Err.fault) c.entry_of.result c.entry_of.ensures c.make_room.ensures.entries c.push.ensures.entries c.self.invariant.book.stands.legal tt refl (λ d. refl) c.self.invariant.roomed;
+    }
 
-pub invariant_of-self-in_default-queue : goal.invariant_of-self-in_default-queue
-invariant_of-self-in_default-queue c =
+pub invariant_of-self-in_default-reserve_waiting : goal.invariant_of-self-in_default-reserve_waiting
+invariant_of-self-in_default-reserve_waiting c =
     let s = c.self.inside in
-    let t = c.in_default-queue.ensures.err in
-    same_book s.journal c.make_room-2.new.journal s.documents.items c.queue.new.self.items s.moment s.tokens s.owed s.drivers c.self.invariant.book c.queue.ensures.names c.make_room-2.ensures.entries c.make_room-2.ensures.kept
-    (kept_same s.documents.items c.queue.new.self.items c.args.raw.now.doc (entries s.journal) t c.self.invariant.book.stands) (kept_owes s.documents.items c.queue.new.self.items c.args.raw.now.doc t)
+    reserved_book s.journal c.make_room-2.new.journal s.documents.items c.reserve_waiting.new.documents.items s.rooms c.reserve_waiting.new.rooms s.moment s.tokens s.owed s.drivers c.args.raw.now.doc
+    c.self.invariant c.reserve_waiting.ensures.names c.make_room-2.ensures.entries c.make_room-2.ensures.kept c.reserve_waiting.ensures.kept c.reserve_waiting.ensures.roomier
 
 pub invariant_of-self-2 : goal.invariant_of-self-2
 invariant_of-self-2 c =
@@ -42,7 +47,9 @@ invariant_of-self-2 c =
     let raw : IsRaw c.in-Ok-copy.op = subst IsRaw (sym c.in-Ok-copy.ensures) (subst (λ (o : Result (List Comp) FormFault). IfOk o IsRaw) c.in-Ok.is c.requires.within) in
     let made : IsMade c.args.raw.now.doc (entries s.journal) = omega (arith, count, within, len) in
     let row : IsRawUpdate (entries s.journal) (update_by s.moment c.args.raw.now c.in-Ok-copy.op) = record { made = made; unnumbered = refl; source_low = c.requires.source; at_once = c.self.invariant.book.now_is; within = raw } in
-    sent_book s.journal c.make_room-2.new.journal c.push-2.new.self s.documents.items c.queue.new.self.items s.moment s.tokens s.owed s.drivers c.in-Ok-make_room-2.sum c.len-ticket.result u c.entry_of-2.result
-    c.self.invariant.book c.make_room-2.ensures.entries c.in-Ok-make_room-2.ensures.room.0 c.in-Ok-make_room-2.ensures.room.1 c.push-2.ensures.entries c.push-2.ensures.spare c.queue.ensures.names
-    (ap (λ (e : Entry). e.act) c.entry_of-2.ensures) (subst (λ (x : Update). IsAllowed (entries s.journal) c.entry_of-2.result.seat (Sent x)) (sym u_is) row) (subst (λ (x : Update). IsRaw x.op) (sym u_is) raw) c.len-ticket.ensures.value
-    (subst (λ (x : Update). Turns x.doc (IsQueued c.len-ticket.result) s.documents.items c.queue.new.self.items) (sym u_is) c.in-Ok-queue.ensures.ok)
+    let at : c.args.raw.now.doc ≡ u.doc = ap (λ (x : Update). x.doc) (sym u_is) in
+    queued_book s.journal c.make_room-2.new.journal c.push-2.new.self s.documents.items c.reserve_waiting.new.documents.items c.queue.new.self.items s.rooms c.reserve_waiting.new.rooms s.moment s.tokens s.owed s.drivers c.in-Ok-make_room-2.sum c.len-ticket.result u c.entry_of-2.result
+    c.self.invariant c.make_room-2.ensures.entries c.in-Ok-make_room-2.ensures.room c.push-2.ensures.entries c.push-2.ensures.spare (c.queue.ensures.names ∙ c.reserve_waiting.ensures.names)
+    (ap (λ (e : Entry). e.act) c.entry_of-2.ensures) (subst (λ (x : Update). IsAllowed (entries s.journal) c.entry_of-2.result.seat (Sent x)) (sym u_is) row) c.len-ticket.ensures.value
+    (subst (λ d. Turns d IsKeptAs s.documents.items c.reserve_waiting.new.documents.items) at c.reserve_waiting.ensures.kept) (subst (λ d. Turns d (IsQueued c.len-ticket.result) c.reserve_waiting.new.documents.items c.queue.new.self.items) at c.queue.ensures.queued)
+    c.reserve_waiting.ensures.roomier (subst (λ d. (x : Document) → slice_get c.reserve_waiting.new.documents.items d ≡ Some x → HaveRoom d (length x.waiting.items + 1) c.reserve_waiting.new.rooms) at c.in-Ok-reserve_waiting.ensures.told)

@@ -1,0 +1,192 @@
+-- What a call for a client leaves: its entry is allowed, and the client that was handed in is the journal's again.
+use Rattle.std.proofs.Common.{◌≡◌, ◌≢◌, ℕ, zero, suc, ◌+◌, ◌≤◌, ◌<◌, List, [], ◌∷◌, ◌++◌, length, take, drop, Bool, true, false, not, ◌||◌, refl, sym, ap, ◌∙◌, subst, arith, eqb, eq-eqb, ne_eqb}
+use Rattle.std.specs.Prelude.{Option, Some, None, is_some, nat_lt, nat_le, unwrap_or, if◌then◌else◌}
+use Rattle.std.specs.Str.{bytes_eq}
+use Rattle.std.proofs.lemmas.Bool.{ltb-false, le-leb, or_parts}
+use Rattle.std.proofs.lemmas.List.{length-take, length-drop}
+use Rattle.std.proofs.lemmas.Slice.Eq.{bytes_eq-Decides}
+use Rattle.ot_op.specs.declared.comp.Comp.{Comp}
+use Rattle.ot_op.specs.declared.comp.Comp.TheVariants.{Ins, Del, Com}
+use Rattle.ot_op.specs.Apply.{applied, stands}
+use Rattle.ot_op.specs.Compose.{appended}
+use Rattle.ot_op.specs.Operation.{is_void}
+use Rattle.ot_op.proofs.Pieces.{stands_there}
+use Rattle.ot_units.specs.Text.{part_at}
+use Rattle.ot_op.specs.declared.limits.TheConstants.{MAX_COMPONENTS, MAX_OPERATION_UNITS}
+use Rattle.journal_entries.specs.declared.message.Msg.{Msg}
+use Rattle.journal_entries.specs.declared.update.Update.{Update}
+use Rattle.journal_entries.specs.declared.act.Act.{Act}
+use Rattle.journal_entries.specs.declared.act.Act.TheVariants.{Joined as JoinedAct, Edited, Sent, Got}
+use Rattle.journal_entries.specs.declared.act.Entry.{Entry}
+use Rattle.journal_rules.specs.declared.state.ClientState.{ClientState}
+use Rattle.journal_rules.specs.declared.state.ClientState.TheVariants.{Away, Joined, Left, Stale}
+use Rattle.journal_rules.specs.Client as rules
+use Rattle.journal_rules.specs.Client.{client, client_by, sending, update_from}
+use Rattle.journal_rules.specs.Documents.{IsMade, text, text_at, version}
+use Rattle.journal_rules.specs.Locks.{clock}
+use Rattle.journal_rules.specs.Mail.{mail}
+use Rattle.journal_rules.specs.Legal.{IsAllowed, IsLegal, brief_of, units}
+use Rattle.journal_rules.proofs.Pushing.{client-push}
+use Rattle.journal_rules.proofs.Lists.{some_same}
+use Rattle.journal_laws.proofs.Updates.{text_at_version}
+use Rattle.journal_laws.proofs.World.{joined_alive}
+use Rattle.journal_laws.proofs.Laws.{shows}
+use Rattle.share_client.specs.Clients.{Numbered, pending_fault, send_fault, unless_away}
+use Rattle.share_client.specs.declared.edit.Edit.{Edit}
+use Rattle.share_client.specs.declared.edit.Edit.TheVariants.{Insert, Delete, Comment}
+use Rattle.share_client.specs.declared.edit.EditFault.{EditFault}
+use Rattle.share_client.specs.declared.edit.EditFault.TheVariants.{NotJoined, PastEnd, Full}
+use Rattle.share_client.specs.declared.send.SendFault.{SendFault}
+use Rattle.share_client.specs.declared.send.SendFault.TheVariants as send
+use Rattle.share_client.specs.Edits.{IsEdit, edit_comp, edit_end, edit_fault, full_fault, is_joined}
+use Rattle.book.specs.Roomed.{IsClientAfter, IsClientOf}
+
+-- ---- the client behind its entry
+client_after : (j k : List Entry) (e : Entry) (was now : Numbered) (s : rules.Client) → k ≡ j ++ e ∷ [] → client_by was.client j e.act was.now ≡ s → IsClientOf j was → now ≡ record was { now = s } → IsClientAfter k was now
+client_after j k e was now s more by own is = record {
+  client_is = ap (λ (x : Numbered). x.client) is;
+  stands = ap (λ (x : Numbered). x.now) is ∙ sym by ∙ ap (client_by was.client j e.act) own
+      ∙ sym (ap (client was.client) more ∙ client-push was.client j e) ∙ ap (λ (x : Numbered). client x.client k) (sym is);
+}
+
+if_own : (c : ℕ) (s t : rules.Client) → (if eqb c c then s else t) ≡ s
+if_own c s t = ap (λ b. if b then s else t) (eq-eqb c c refl)
+
+pub edited_client : (j k : List Entry) (e : Entry) (was now : Numbered) (comp : Comp) → k ≡ j ++ e ∷ [] → e.act ≡ Edited was.client comp → IsClientOf j was → now ≡ record was { now = rules.edited_by was.now comp } → IsClientAfter k was now
+edited_client j k e was now comp more is own now_is = client_after j k e was now (rules.edited_by was.now comp) more (ap (λ a. client_by was.client j a was.now) is ∙ if_own was.client (rules.edited_by was.now comp) was.now) own now_is
+
+pub got_client : (j k : List Entry) (e : Entry) (was now : Numbered) (m : Msg) (rest : List Msg) → k ≡ j ++ e ∷ [] → e.act ≡ Got was.client (brief_of m) → mail was.client j ≡ m ∷ rest → IsClientOf j was → now ≡ record was { now = rules.delivered was.now m } → IsClientAfter k was now
+got_client j k e was now m rest more is first own now_is =
+    client_after j k e was now (rules.delivered was.now m) more
+    (ap (λ a. client_by was.client j a was.now) is ∙ if_own was.client (rules.got_by was.now (mail was.client j)) was.now ∙ ap (rules.got_by was.now) first) own now_is
+
+pub sent_client : (j k : List Entry) (e : Entry) (was now : Numbered) (u : Update) → k ≡ j ++ e ∷ [] → e.act ≡ Sent u → u.client ≡ Some was.client → was.now.flight ≡ None → IsClientOf j was → now ≡ record was { now = rules.sent_by was.now None } → IsClientAfter k was now
+sent_client j k e was now u more is whose free own now_is =
+    client_after j k e was now (rules.sent_by was.now None) more
+    (ap (λ a. client_by was.client j a was.now) is ∙ ap (λ o. if rules.is_of was.client o then rules.sent_by was.now was.now.flight else was.now) whose
+    ∙ if_own was.client (rules.sent_by was.now was.now.flight) was.now ∙ ap (rules.sent_by was.now) free) own now_is
+
+pub joined_client : (j k : List Entry) (e : Entry) (was now : Numbered) (doc : ℕ) (user : List ℕ) (track : Bool) (source v : ℕ) (here : List ℕ) → k ≡ j ++ e ∷ [] → e.act ≡ JoinedAct was.client doc user track None source v → v ≡ version doc j → text doc j ≡ Some here
+    → IsClientOf j was → now ≡ record was { now = rules.joined_anew was.now doc user track source v here } → IsClientAfter k was now
+joined_client j k e was now doc user track source v here more is at text_is own now_is =
+    client_after j k e was now (rules.joined_anew was.now doc user track source v here) more
+    (ap (λ a. client_by was.client j a was.now) is ∙ if_own was.client (rules.joined_by was.now j doc user track None source v) was.now
+    ∙ ap (λ o. rules.joined_anew was.now doc user track source v (unwrap_or o [])) (ap (λ n. text_at doc n j) at ∙ text_at_version doc j ∙ text_is)) own now_is
+
+-- it is the journal's client still, where nothing was written
+pub same_client : (j k : List Entry) (was now : Numbered) → k ≡ j → IsClientOf j was → now ≡ was → IsClientAfter k was now
+same_client j k was now same own is = record {
+  client_is = ap (λ (x : Numbered). x.client) is;
+  stands = ap (λ (x : Numbered). x.now) is ∙ own ∙ ap (client was.client) (sym same) ∙ ap (λ (x : Numbered). client x.client k) (sym is);
+}
+
+-- ---- edits
+joined_if : (st : ClientState) → not (is_joined st) ≡ false → st ≡ Joined
+joined_if Joined e = refl
+joined_if Away e = absurd (cc)
+joined_if Left e = absurd (cc)
+joined_if Stale e = absurd (cc)
+
+record Unrefused (s : rules.Client) (edit : Edit) : Type 0 where
+  joined : s.state ≡ Joined
+  within : edit_end edit ≤ length s.text
+  few : length (appended s.pending (edit_comp s.text edit)) ≤ MAX_COMPONENTS
+  short : units (appended s.pending (edit_comp s.text edit)) ≤ MAX_OPERATION_UNITS
+
+first_none : {F : Type 0} (b : Bool) (f : F) (rest : Option F) → (if b then Some f else rest) ≡ None → (b ≡ false) × (rest ≡ None)
+first_none true f rest e = absurd (cc)
+first_none false f rest e = (refl, e)
+
+unrefused : (s : rules.Client) (edit : Edit) → edit_fault s edit ≡ None → Unrefused s edit
+unrefused s edit none =
+    let p = appended s.pending (edit_comp s.text edit) in
+    let a = first_none (not (is_joined s.state)) NotJoined (if nat_lt (length s.text) (edit_end edit) then Some (PastEnd (length s.text)) else full_fault p) none in
+    let b = first_none (nat_lt (length s.text) (edit_end edit)) (PastEnd (length s.text)) (full_fault p) a.1 in
+    let c = first_none (nat_lt MAX_COMPONENTS (length p) || nat_lt MAX_OPERATION_UNITS (units p)) (Full (length p) (units p)) None b.1 in
+    let d = or_parts (nat_lt MAX_COMPONENTS (length p)) (nat_lt MAX_OPERATION_UNITS (units p)) c.0 in
+    record {
+      joined = joined_if s.state a.0;
+      within = ltb-false (length s.text) (edit_end edit) b.0;
+      few = ltb-false MAX_COMPONENTS (length p) d.0;
+      short = ltb-false MAX_OPERATION_UNITS (units p) d.1;
+    }
+
+part_stands : (text : List ℕ) (at len : ℕ) → at + len ≤ length text → stands text at (take len (drop at text)) ≡ true
+part_stands text at len within =
+    let part = take len (drop at text) in
+    let n : length part ≡ len = length-take len (drop at text) ∙ (let d = length-drop at text in omega (arith, d, within)) in
+    stands_there text at part part (omega (arith, n, within)) (ap (λ l. part_at text at l) (sym n)) ∙ (bytes_eq-Decides part part).1 refl
+
+edit_applies : (text : List ℕ) (edit : Edit) → edit_end edit ≤ length text → is_some (applied text (edit_comp text edit)) ≡ true
+edit_applies text (Insert at part) within = rw (le-leb at (length text) within) refl
+edit_applies text (Delete at len) within = rw (part_stands text at len within) refl
+edit_applies text (Comment at len thread) within = rw (part_stands text at len within) refl
+
+edit_solid : (text : List ℕ) (edit : Edit) → IsEdit edit → edit_end edit ≤ length text → is_void (edit_comp text edit) ≡ false
+edit_solid text (Insert at []) some within = absurd (some refl)
+edit_solid text (Insert at (x ∷ part)) some within = ne_eqb (length (x ∷ part)) 0 (λ h. absurd (omega (arith, h)))
+edit_solid text (Delete at len) some within = by (take len (drop at text)) (length-take len (drop at text) ∙ (let d = length-drop at text in omega (arith, d, within)))
+  where
+    by : (part : List ℕ) → length part ≡ len → eqb (length part) 0 ≡ false
+    by [] is = absurd (omega (arith, is, some))
+    by (x ∷ part) is = ne_eqb (length (x ∷ part)) 0 (λ h. absurd (omega (arith, h)))
+edit_solid text (Comment at len thread) some within = refl
+
+pub may_edit : (j : List Entry) (seat : ℕ) (was : Numbered) (edit : Edit) → IsClientOf j was → IsEdit edit → edit_fault was.now edit ≡ None → IsAllowed j seat (Edited was.client (edit_comp was.now.text edit))
+may_edit j seat was edit own is none =
+    let comp = edit_comp was.now.text edit in
+    let f = unrefused was.now edit none in
+    record {
+      joined = ap (λ (s : rules.Client). s.state) (sym own) ∙ f.joined;
+      solid = edit_solid was.now.text edit is f.within;
+      applies = ap (λ (s : rules.Client). is_some (applied s.text comp)) (sym own) ∙ edit_applies was.now.text edit f.within;
+      few = subst (λ (s : rules.Client). length (appended s.pending comp) ≤ MAX_COMPONENTS) own f.few;
+      short = subst (λ (s : rules.Client). units (appended s.pending comp) ≤ MAX_OPERATION_UNITS) own f.short;
+    }
+
+-- ---- sendings
+record Sendable (s : rules.Client) : Type 0 where
+  joined : s.state ≡ Joined
+  free : s.flight ≡ None
+  some : pending_fault s.pending ≡ None
+
+sendable : (s : rules.Client) → send_fault s ≡ None → Sendable s
+sendable s none =
+    let a = first_none (not (is_joined s.state)) send.NotJoined (if rules.has_flight s.flight then Some send.InFlight else pending_fault s.pending) none in
+    let b = first_none (rules.has_flight s.flight) send.InFlight (pending_fault s.pending) a.1 in
+    record { joined = joined_if s.state a.0; free = no_flight s.flight b.0; some = b.1 }
+  where
+    no_flight : (f : Option (List Comp)) → rules.has_flight f ≡ false → f ≡ None
+    no_flight None e = refl
+    no_flight (Some op) e = absurd (cc)
+
+pub free_flight : (s : rules.Client) → send_fault s ≡ None → s.flight ≡ None
+free_flight s none = (sendable s none).free
+
+pub sends_joined : (s : rules.Client) → send_fault s ≡ None → s.state ≡ Joined
+sends_joined s none = (sendable s none).joined
+
+sending_now : (c : ℕ) (s : rules.Client) (now : ℕ) → send_fault s ≡ None → sending c s now ≡ Some (update_from c s now (s.number + 1) s.pending [])
+sending_now c s now none =
+    let f = sendable s none in
+    ap (rules.sends_by c s now) f.joined ∙ ap (λ o. rules.sends_flight c s now o s.pending) f.free ∙ by s.pending f.some
+  where
+    by : (p : List Comp) → pending_fault p ≡ None → rules.sends_flight c s now None p ≡ Some (update_from c s now (s.number + 1) p [])
+    by [] e = absurd (cc)
+    by (p ∷ ps) e = refl
+
+pub may_send : (j : List Entry) (seat : ℕ) (was : Numbered) → IsClientOf j was → send_fault was.now ≡ None → IsAllowed j seat (Sent (update_from was.client was.now (clock j) (was.now.number + 1) was.now.pending []))
+may_send j seat was own none = ap (λ (s : rules.Client). sending was.client s (clock j)) (sym own) ∙ sending_now was.client was.now (clock j) none
+
+pub own_doc : (j : List Entry) (was : Numbered) → IsLegal j → IsClientOf j was → send_fault was.now ≡ None → IsMade was.now.doc j
+own_doc j was legal own none =
+    let alive = ap (λ (s : rules.Client). rules.is_alive s.state) (sym own) ∙ joined_alive was.now.state (sends_joined was.now none) in
+    subst (λ (s : rules.Client). IsMade s.doc j) (sym own) (shows was.client j legal alive).made
+
+-- what is asked of a client that is joined
+pub unless_joined : {X : Type 0} (st : ClientState) (x y : X) → st ≡ Joined → Some y ≡ unless_away st x → x ≡ y
+unless_joined st x y joined is = sym (some_same y x (is ∙ ap (λ t. unless_away t x) joined))
+
+-- ---- messages
+pub may_get : (j : List Entry) (seat c : ℕ) (m : Msg) (rest : List Msg) → mail c j ≡ m ∷ rest → IsAllowed j seat (Got c (brief_of m))
+may_get j seat c m rest first = record { message = m; rest = rest; first = first; brief_is = refl }

@@ -1,0 +1,46 @@
+use Rattle.std.proofs.Common.{rules as rules_, ◌≡◌, ◌<◌, ◌^◌, ◌∙◌, [], ◌∷◌, ◌++◌, refl, sym, ap, subst, arith}
+use Rattle.journal_entries.specs.Journals.{entries}
+use Rattle.journal_entries.specs.declared.act.Act.TheVariants.{Edited}
+use Rattle.journal_entries.specs.declared.act.Entry.{Entry}
+use Rattle.journal_rules.specs.Client as rules
+use Rattle.journal_rules.specs.declared.state.ClientState.TheVariants.{Joined}
+use Rattle.journal_rules.specs.Legal.{IsAllowed, units}
+use Rattle.journal_laws.proofs.World.{joined_alive}
+use Rattle.journal_sizes.proofs.Units.{pending_units}
+use Rattle.share_client.specs.Clients.{Numbered}
+use Rattle.book.specs.Roomed.{IsClientOf}
+use Rattle.book.specs.Shown.{Shown}
+use Rattle.book.proofs.Booking.{quiet_by}
+use Rattle.book.proofs.Roomed.{roomed_quiet_by}
+use Rattle.book.proofs.Serving.{edited_client, may_edit}
+use Rattle.book.proofs.book.Book.edit.Goals as goal
+
+pub edit-requires-clause-small : goal.edit-requires-clause-small
+edit-requires-clause-small c =
+    let j = entries c.self.inside.journal in
+    let own : IsClientOf j c.args.client.now = subst (λ (v : Shown). IsClientOf v.journal c.args.client.now) (sym c.self.view_is) c.requires.client in
+    let joined : c.args.client.now.now.state ≡ Joined = search (rules_, c.state.ensures, c.ne.ensures, c.if-ne.false) in
+    let low : units c.args.client.now.now.pending < 2 ^ 32 = subst (λ (s : rules.Client). units s.pending < 2 ^ 32) (sym own) (pending_units c.args.client.now.client j c.self.invariant.book.stands.legal (ap (λ (s : rules.Client). rules.is_alive s.state) (sym own) ∙ joined_alive c.args.client.now.now.state joined)) in
+    let n = c.units_of_edit-units.ensures.value in
+    let small = c.units_of_edit-units.ensures.small in
+    omega (arith, low, n, small)
+
+pub invariant_of-self-2 : goal.invariant_of-self-2
+invariant_of-self-2 c =
+    let s = c.self.inside in
+    let j = entries s.journal in
+    let own : IsClientOf j c.args.client.now = subst (λ (v : Shown). IsClientOf v.journal c.args.client.now) (sym c.self.view_is) c.requires.client in
+    let ok = c.in_ok-comp.ensures.ok in
+    let number : c.args.client.now.client ≡ c.client-client.result = sym (c.client-client.ensures ∙ ap (λ (x : Numbered). x.client) ok.2) in
+    record {
+      book = quiet_by s.journal c.make_room.new.journal c.push.new.self s.documents.items s.moment s.moment s.tokens s.owed s.drivers c.in-Ok._sum c.args.by.seat c.args.by.line (Edited c.client-client.result c.in_ok-comp.comp) c.entry_of.result c.entry_of.ensures
+          c.self.invariant.book c.make_room.ensures.entries c.in-Ok.ensures.room c.push.ensures.entries c.push.ensures.spare (subst (λ n. IsAllowed j c.args.by.seat (Edited n c.in_ok-comp.comp)) number (subst (λ x. IsAllowed j c.args.by.seat (Edited c.args.client.now.client x)) (sym ok.0) (may_edit j c.args.by.seat c.args.client.now c.args.edit.now own c.requires.edit ok.1))) tt refl refl c.self.invariant.book.now_low;
+      roomed = roomed_quiet_by s.rooms j (entries c.make_room.new.journal) (entries c.push.new.self) c.args.by.seat c.args.by.line (Edited c.client-client.result c.in_ok-comp.comp) c.entry_of.result c.entry_of.ensures c.make_room.ensures.entries c.push.ensures.entries c.self.invariant.book.stands.legal tt refl (λ d. refl) c.self.invariant.roomed;
+    }
+
+pub returns-clause-client : goal.returns-clause-client
+returns-clause-client c =
+    let s = c.self.inside in
+    let j = entries s.journal in
+    let own : IsClientOf j c.args.client.now = subst (λ (v : Shown). IsClientOf v.journal c.args.client.now) (sym c.self.view_is) c.requires.client in
+    edited_client j (entries c.push.new.self) c.entry_of.result c.args.client.now c.edit.new.self c.in_ok-comp.comp (c.push.ensures.entries ∙ ap (λ l. l ++ c.entry_of.result ∷ []) c.make_room.ensures.entries) (ap (λ (x : Entry). x.act) c.entry_of.ensures ∙ ap (λ n. Edited n c.in_ok-comp.comp) (c.client-client.ensures ∙ ap (λ (x : Numbered). x.client) c.in_ok-comp.ensures.ok.2)) own c.in_ok-comp.ensures.ok.2
