@@ -1,5 +1,5 @@
 -- How large an operation is with a component more.
-use Rattle.std.proofs.Common.{◌≡◌, ℕ, ◌+◌, ◌-◌, ◌≤◌, Bool, true, false, List, [], ◌∷◌, ◌++◌, length, take, drop, arith}
+use Rattle.std.proofs.Common.{◌≡◌, ℕ, ◌+◌, ◌-◌, ◌^◌, ◌≤◌, Bool, true, false, List, [], ◌∷◌, length, drop, min, arith}
 use Rattle.std.specs.Prelude.{◌&&◌, nat_le, sum_by, if◌then◌else◌}
 use Rattle.std.proofs.lemmas.List.Sums.{sum_by-cons}
 use Rattle.ot_units.specs.Text.{put_at}
@@ -8,7 +8,10 @@ use Rattle.ot_op.specs.declared.comp.Comp.TheVariants.{Ins, Del, Com}
 use Rattle.ot_op.specs.Operation.{is_void, units_of}
 use Rattle.ot_op.specs.Compose.{joined, behind, appended}
 use Rattle.ot_transform.proofs.Rooms.{length-put}
+use Rattle.journal_rules.specs.Client.{places_fit}
 use Rattle.journal_rules.specs.Legal.{units}
+use Rattle.journal_rules.proofs.Sizes.{edits_least, comments_least}
+use Rattle.journal_sizes.specs.Sizes.{IsSized}
 use Rattle.share_client.specs.declared.edit.Edit.{Edit}
 use Rattle.share_client.specs.declared.edit.Edit.TheVariants.{Insert, Delete, Comment}
 use Rattle.share_client.specs.Edits.{edit_comp, edit_length}
@@ -46,3 +49,9 @@ pub comp-units : (text : List ℕ) (edit : Edit) → units_of (edit_comp text ed
 comp-units text (Insert at part) = omega arith
 comp-units text (Delete at len) = omega (arith, length-take len (drop at text))
 comp-units text (Comment at len thread) = omega (arith, length-take len (drop at text))
+
+-- an operation of few components and few units is sized
+pub sized_few : (op : List Comp) (count : ℕ) → count ≡ min (sum_by units_of op) (2 ^ 64 - 1) → count ≤ 1000 → length op ≤ 1000 → places_fit op ≡ true → IsSized op
+sized_few op count is few short low =
+    let e = edits_least op in let c = comments_least op in
+    record { light = record { units = omega (arith, is, few, e); comments = omega (arith, c, short) }; low = low }

@@ -1,10 +1,9 @@
 -- What contracts see of a client.
-use Rattle.std.specs.Prelude.{◌≡◌, ℕ, ◌+◌, Bool, true, false, not, List, [], ◌∷◌, Option, Some, None, if◌then◌else◌}
+use Rattle.std.specs.Prelude.{ℕ, not, List, [], ◌∷◌, Option, Some, None, if◌then◌else◌}
 use Rattle.ot_op.specs.declared.comp.Comp.{Comp}
 use Rattle.journal_rules.specs.declared.state.ClientState.{ClientState}
-use Rattle.journal_rules.specs.declared.state.ClientState.TheVariants.{Away, Joined, Left, Stale}
+use Rattle.journal_rules.specs.declared.state.ClientState.TheVariants.{Away}
 use Rattle.journal_rules.specs.Client.{Client, has_flight}
-use Rattle.share_client.specs.declared.send.Outgoing.{Outgoing}
 use Rattle.share_client.specs.declared.send.SendFault.{SendFault}
 use Rattle.share_client.specs.declared.send.SendFault.TheVariants.{NotJoined, InFlight, Nothing, Memory}
 use Rattle.share_client.specs.Edits.{is_joined}

@@ -186,7 +186,12 @@ static CASES: [Case; 24] = [
     },
     Case {
         what: "the flight, pending and another at one place",
-        steps: &[Put(3, "F"), Send, Put(4, "P"), Other(5, &[(Insert, 3, "Z")], 9)],
+        steps: &[
+            Put(3, "F"),
+            Send,
+            Put(4, "P"),
+            Other(5, &[(Insert, 3, "Z")], 9),
+        ],
         version: 6,
         text: "abcFPZ",
         flight: Some(&[(Insert, 3, "F")]),
@@ -228,7 +233,13 @@ static CASES: [Case; 24] = [
     },
     Case {
         what: "messages to a stale client",
-        steps: &[Put(1, "X"), Send, Error(1), Ack(5), Other(5, &[(Insert, 0, "Z")], 9)],
+        steps: &[
+            Put(1, "X"),
+            Send,
+            Error(1),
+            Ack(5),
+            Other(5, &[(Insert, 0, "Z")], 9),
+        ],
         state: Stale,
         text: "aXbc",
         flight: Some(&[(Insert, 1, "X")]),
@@ -305,9 +316,9 @@ fn is_small(client: &ShareClient, edit: &Edit) -> bool
         Edit::Delete { at: _, len } => few && 0 < *len,
         Edit::Comment {
             at: _,
-            len: _,
+            len,
             thread: _,
-        } => few,
+        } => few && (*len as usize) < FEW,
     }
 }
 
@@ -321,8 +332,14 @@ fn edit(client: &mut ShareClient, edit: &Edit) -> Result<Result<Comp, EditFault>
 fn is_sized(op: &Op) -> bool
     ensures { IsTrue result → IsSized op.now }
 {
-    let few = op.comps().len() <= 1_000 && units(op.comps()) <= 1_000;
-    few && do_places_fit(op)
+    if op.comps().len() > 1_000 {
+        return false;
+    }
+    let count = units(op.comps());
+    if count > 1_000 {
+        return false;
+    }
+    do_places_fit(op)
 }
 
 fn is_sized_msg(msg: &Msg) -> bool
@@ -399,23 +416,32 @@ fn taken(alloc: Global, steps: &[Step]) -> Result<ShareClient, Fail> {
     Ok(client)
 }
 
+fn stands(client: &ShareClient, case: &Case) -> bool {
+    let (state, version) = (client.state(), client.version());
+    state == case.state && version == case.version && client.last_number() == case.number
+}
+
+fn shows(alloc: Global, client: &ShareClient, case: &Case) -> Result<bool, Fail> {
+    let text = doc_units(alloc, client.text())?;
+    let want = spelled(alloc, case.text)?;
+    let pending = op(alloc, case.pending)?;
+    Ok(text.same(&want) && client.pending().comps() == pending.comps())
+}
+
+fn flies(alloc: Global, client: &ShareClient, want: Option<&[Row]>) -> Result<bool, Fail> {
+    match (client.flight(), want) {
+        (Some(flight), Some(rows)) => Ok(flight.comps() == op(alloc, rows)?.comps()),
+        (None, None) => Ok(true),
+        _ => Ok(false),
+    }
+}
+
 fn check(rt: &impl Abort, alloc: Global, case: &Case) -> Result<(), Fail> {
     let what = case.what;
     let client = taken(alloc, case.steps)?;
-    assert_eq!(rt; client.state(), case.state, "{what}");
-    assert_eq!(rt; client.version(), case.version, "{what}");
-    assert_eq!(rt; client.last_number(), case.number, "{what}");
-    let text = doc_units(alloc, client.text())?;
-    assert!(rt; text.same(&spelled(alloc, case.text)?), "{what}");
-    let pending = op(alloc, case.pending)?;
-    assert_eq!(rt; client.pending().comps(), pending.comps(), "{what}");
-    match (client.flight(), case.flight) {
-        (Some(flight), Some(want)) => {
-            assert_eq!(rt; flight.comps(), op(alloc, want)?.comps(), "{what}")
-        }
-        (None, None) => {}
-        (flight, _) => panic!(rt; "{what}: {flight:?}"),
-    }
+    assert!(rt; stands(&client, case), "{what}");
+    assert!(rt; shows(alloc, &client, case)?, "{what}");
+    assert!(rt; flies(alloc, &client, case.flight)?, "{what}");
     Ok(())
 }
 
@@ -437,7 +463,11 @@ static REFUSALS: [Refusal; 9] = [
     (&[], Cut(2, 2), Some(EditFault::PastEnd { len: 3 })),
     (&[], Comment(3, 0), None),
     (&[], Comment(3, 1), Some(EditFault::PastEnd { len: 3 })),
-    (&[Cut(0, 3)], Put(1, "x"), Some(EditFault::PastEnd { len: 0 })),
+    (
+        &[Cut(0, 3)],
+        Put(1, "x"),
+        Some(EditFault::PastEnd { len: 0 }),
+    ),
     (&[Leave], Put(4, "x"), Some(EditFault::NotJoined)),
     (
         &[Put(0, "x"), Send, Error(1)],
@@ -473,71 +503,89 @@ fn an_edit_is_refused_for_the_first_cause(rt: HostRuntime) -> Result<(), Fail> {
     Ok(())
 }
 
+/// So many threads are set to nothing, and where one is refused, why.
+fn comment(client: &mut ShareClient, threads: u32) -> Result<Option<EditFault>, Fail> {
+    for thread in 0..threads {
+        let (at, len) = (0, 0);
+        let made = edit(client, &Edit::Comment { at, len, thread })?;
+        if let Err(fault) = made {
+            return Ok(Some(fault));
+        }
+    }
+    Ok(None)
+}
+
 #[test]
-fn too_large_an_operation_is_refused(rt: HostRuntime) -> Result<(), Fail> {
+fn too_many_units_are_refused(rt: HostRuntime) -> Result<(), Fail> {
     let alloc = rt.alloc();
     let mut client = joined(alloc)?;
     let text = Units::sanitized(alloc, "x".repeat(alloc, 65_536)?.as_str())?;
     let most = edit(&mut client, &Edit::Insert { at: 0, text })?;
     assert!(rt; most.is_ok());
     let more = edit(&mut client, &Edit::Delete { at: 65_536, len: 1 })?;
-    let full = EditFault::Full {
-        comps: 2,
-        units: 65_537,
-    };
-    assert_eq!(rt; more.err(), Some(full));
-    assert_eq!(rt; client.text().len(), 65_539);
-    for thread in 1..1_000 {
-        let edit_ = Edit::Comment {
-            at: 0,
-            len: 0,
-            thread,
-        };
-        let made = edit(&mut client, &edit_)?;
-        assert!(rt; made.is_ok());
-    }
-    let more = edit(
-        &mut client,
-        &Edit::Comment {
-            at: 0,
-            len: 0,
-            thread: 0,
-        },
-    )?;
-    let full = EditFault::Full {
-        comps: 1_001,
-        units: 65_536,
-    };
-    assert_eq!(rt; more.err(), Some(full));
+    let (comps, units) = (2, 65_537);
+    assert!(rt; more.err() == Some(EditFault::Full { comps, units }));
+    assert!(rt; client.text().len() == 65_539);
     Ok(())
 }
 
 #[test]
-fn a_client_sends_what_is_pending_and_its_flight_again(rt: HostRuntime) -> Result<(), Fail> {
-    let alloc = rt.alloc();
-    let mut client = joined(alloc)?;
-    assert!(rt; send(&mut client)?.err() == Some(SendFault::Nothing));
-    assert!(rt; client.send_again().err() == Some(SendFault::Nothing));
-    take(alloc, &mut client, &Put(1, "X"))?;
-    let sent = send(&mut client)?.ok().ok_or("an operation")?;
-    assert!(rt; (sent.number, sent.v) == (1, 5) && sent.dup.as_slice().is_empty());
+fn too_many_components_are_refused(rt: HostRuntime) -> Result<(), Fail> {
+    let mut client = joined(rt.alloc())?;
+    assert!(rt; comment(&mut client, 1_000)? == None);
+    let (comps, units) = (1_001, 0);
+    assert!(rt; comment(&mut client, 1)? == Some(EditFault::Full { comps, units }));
+    Ok(())
+}
+
+/// Whether the insert of `X` at 1 was sent under number 1 for version 5, with these sources before.
+fn is_sent(alloc: Global, sent: &Outgoing, dup: &[u64]) -> Result<bool, Fail> {
     let want = op(alloc, &[(Insert, 1, "X")])?;
-    assert_eq!(rt; sent.op.comps(), want.comps());
-    assert!(rt; send(&mut client)?.err() == Some(SendFault::InFlight));
-    let again = client.send_again().ok().ok_or("an operation")?;
-    assert!(rt; (again.number, again.v) == (1, 5) && again.dup.as_slice() == [OWN].as_slice());
-    assert_eq!(rt; again.op.comps(), want.comps());
-    client.left();
-    assert!(rt; send(&mut client)?.err() == Some(SendFault::NotJoined));
-    assert!(rt; client.send_again().err() == Some(SendFault::NotJoined));
-    Ok(())
+    let is_first = sent.number == 1 && sent.v == 5;
+    Ok(is_first && sent.op.comps() == want.comps() && sent.dup.as_slice() == dup)
 }
 
 #[test]
-fn an_empty_flight_is_not_sent_again(rt: HostRuntime) -> Result<(), Fail> {
-    let steps = [Cut(1, 1), Send, Other(5, &[(Delete, 1, "b")], 9)];
-    let mut client = taken(rt.alloc(), &steps)?;
-    assert!(rt; client.send_again().err() == Some(SendFault::Nothing));
-    assert!(rt; send(&mut client)?.err() == Some(SendFault::InFlight));
+fn what_is_in_flight_is_sent_again(rt: HostRuntime) -> Result<(), Fail> {
+    let alloc = rt.alloc();
+    let mut client = taken(alloc, &[Put(1, "X")])?;
+    match send(&mut client)? {
+        Ok(sent) => assert!(rt; is_sent(alloc, &sent, &[])?),
+        Err(fault) => panic!(rt; "{fault:?}"),
+    }
+    match client.send_again() {
+        Ok(sent) => assert!(rt; is_sent(alloc, &sent, &[OWN])?),
+        Err(fault) => panic!(rt; "{fault:?}"),
+    }
+    Ok(())
+}
+
+/// Steps, and why nothing is sent behind them, of what is pending and then of what is in flight.
+type Unsent = (&'static [Step], Option<SendFault>, Option<SendFault>);
+
+static UNSENT: [Unsent; 5] = [
+    (&[], Some(SendFault::Nothing), Some(SendFault::Nothing)),
+    (&[Put(1, "X")], None, None),
+    (&[Put(1, "X"), Send], Some(SendFault::InFlight), None),
+    // Its flight became empty.
+    (
+        &[Cut(1, 1), Send, Other(5, &[(Delete, 1, "b")], 9)],
+        Some(SendFault::InFlight),
+        Some(SendFault::Nothing),
+    ),
+    (
+        &[Put(1, "X"), Send, Leave],
+        Some(SendFault::NotJoined),
+        Some(SendFault::NotJoined),
+    ),
+];
+
+#[test]
+fn nothing_is_sent_for_the_first_cause(rt: HostRuntime) -> Result<(), Fail> {
+    for (steps, pending, flight) in &UNSENT {
+        let mut client = taken(rt.alloc(), *steps)?;
+        assert!(rt; send(&mut client)?.err() == *pending);
+        assert!(rt; client.send_again().err() == *flight);
+    }
     Ok(())
 }

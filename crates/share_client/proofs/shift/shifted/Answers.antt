@@ -1,5 +1,5 @@
-use Rattle.std.proofs.Common.{◌≡◌, List, ap, sym, ◌∙◌, subst}
-use Rattle.std.specs.Prelude.{Option, Some, None, IfSome}
+use Rattle.std.proofs.Common.{List, subst}
+use Rattle.std.specs.Prelude.{Option, IfSome}
 use Rattle.ot_op.specs.declared.comp.Comp.{Comp}
 use Rattle.journal_sizes.specs.Sizes.{IsFlown}
 use Rattle.journal_sizes.proofs.Rooms.{fits_near}

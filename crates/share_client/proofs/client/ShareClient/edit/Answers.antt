@@ -1,4 +1,4 @@
-use Rattle.std.proofs.Common.{arith, ap, sym, ◌∙◌, ◌≡◌, ◌≤◌, ◌+◌, ℕ}
+use Rattle.std.proofs.Common.{arith, ◌≤◌, ◌+◌}
 use Rattle.ot_op.specs.Operation.{units_of}
 use Rattle.journal_rules.specs.Legal.{units}
 use Rattle.share_client.specs.Edits.{edit_length}
