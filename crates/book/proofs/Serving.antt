@@ -38,7 +38,8 @@ use Rattle.share_client.specs.declared.edit.EditFault.{EditFault}
 use Rattle.share_client.specs.declared.edit.EditFault.TheVariants.{NotJoined, PastEnd, Full}
 use Rattle.share_client.specs.declared.send.SendFault.{SendFault}
 use Rattle.share_client.specs.declared.send.SendFault.TheVariants as send
-use Rattle.share_client.specs.Edits.{IsEdit, edit_comp, edit_end, edit_fault, full_fault, is_joined}
+use Rattle.share_client.specs.Edits.{IsEdit, edit_comp, edit_end, edit_fault, full_fault}
+use Rattle.turn_rules.specs.Clients.{is_joined}
 use Rattle.book.specs.Roomed.{IsClientAfter, IsClientOf}
 
 -- ---- the client behind its entry
@@ -166,7 +167,7 @@ free_flight s none = (sendable s none).free
 pub sends_joined : (s : rules.Client) → send_fault s ≡ None → s.state ≡ Joined
 sends_joined s none = (sendable s none).joined
 
-sending_now : (c : ℕ) (s : rules.Client) (now : ℕ) → send_fault s ≡ None → sending c s now ≡ Some (update_from c s now (s.number + 1) s.pending [])
+pub sending_now : (c : ℕ) (s : rules.Client) (now : ℕ) → send_fault s ≡ None → sending c s now ≡ Some (update_from c s now (s.number + 1) s.pending [])
 sending_now c s now none =
     let f = sendable s none in
     ap (rules.sends_by c s now) f.joined ∙ ap (λ o. rules.sends_flight c s now o s.pending) f.free ∙ by s.pending f.some

@@ -6,7 +6,7 @@ use Rattle.journal_rules.specs.declared.state.ClientState.TheVariants.{Away}
 use Rattle.journal_rules.specs.Client.{Client, has_flight}
 use Rattle.share_client.specs.declared.send.SendFault.{SendFault}
 use Rattle.share_client.specs.declared.send.SendFault.TheVariants.{NotJoined, InFlight, Nothing, Memory}
-use Rattle.share_client.specs.Edits.{is_joined}
+use Rattle.turn_rules.specs.Clients.{is_joined}
 
 -- its number, and what it is
 pub record Numbered : Type 0 where

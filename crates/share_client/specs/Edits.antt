@@ -6,6 +6,7 @@ use Rattle.ot_op.specs.Compose.{appended}
 use Rattle.journal_rules.specs.declared.state.ClientState.{ClientState}
 use Rattle.journal_rules.specs.declared.state.ClientState.TheVariants.{Joined}
 use Rattle.journal_rules.specs.Client.{Client}
+use Rattle.turn_rules.specs.Clients.{is_joined}
 use Rattle.journal_rules.specs.Legal.{units}
 use Rattle.ot_op.specs.declared.limits.TheConstants.{MAX_COMPONENTS, MAX_OPERATION_UNITS}
 use Rattle.share_client.specs.declared.edit.Edit.{Edit}
@@ -36,10 +37,6 @@ abbrev pub edit_comp : List ℕ → Edit → Comp
 edit_comp text (Insert at part) = comp.Ins at part
 edit_comp text (Delete at len) = comp.Del at (take len (drop at text))
 edit_comp text (Comment at len thread) = comp.Com at (take len (drop at text)) thread
-
-abbrev pub is_joined : ClientState → Bool
-is_joined Joined = true
-is_joined _ = false
 
 -- the first refusal that holds
 abbrev pub full_fault : List Comp → Option EditFault
