@@ -2,35 +2,24 @@
 use Rattle.std.proofs.Common.{◌≡◌, ◌≢◌, ◌⊎◌, ℕ, zero, suc, ◌+◌, ◌<◌, List, [], ◌∷◌, ◌++◌, length, set, map, All, get_or, Bool, true, false, cond, refl, sym, ap, ◌∙◌, subst, inl, inr, ⊎_elim, arith, eqb, eq-eqb, ne_eqb, append-nil, append_assoc, length-append}
 use mathlib.Core.Option.{some-injective, some-ne-none}
 use Rattle.std.specs.Prelude.{filter}
-use Rattle.std.proofs.lemmas.List.Elements.{All-append}
+use Rattle.std.proofs.lemmas.List.{length-set, map_push}
+use Rattle.std.proofs.lemmas.List.Elements.{All-append, All-nil, All-cons}
 use Rattle.crossbeam_queue.specs.Fifo.{Pushes, Pops, Forks, Learns}
 use Rattle.crossbeam_queue.proofs.Lists.{at_set}
 use Rattle.wake_queue.specs.declared.rule.Done.{Done}
 use Rattle.wake_queue.specs.Wakes.{done, puts, takes, found, done_by, At, IsFifo, Kept, Was, WasFirst, Steps}
 
+-- pushes or pops, each with its pass
 abbrev Log : Type 0
 Log = List (ℕ × ℕ)
 
 all_map : {X : Type 0} (P Q : X → Type 0) (xs : List X) → ((x : X) → P x → Q x) → All P xs → All Q xs
 all_map P Q xs f all k d h = f (get_or xs k d) (all k d h)
 
-all_one : {X : Type 0} (P : X → Type 0) (x : X) → P x → All P (x ∷ [])
-all_one P x p zero d h = p
-all_one P x p (suc k) d h = absurd (omega arith)
-
 within : (l : List Done) (k : ℕ) (v : Done) → At l k v → k < length l
 within [] k v e = absurd (some-ne-none v (sym e))
 within (x ∷ xs) zero v e = omega arith
 within (x ∷ xs) (suc k) v e = let r = within xs k v e in omega (arith, r)
-
-length-set' : (l : List Done) (k : ℕ) (w : Done) → length (set l k w) ≡ length l
-length-set' [] k w = refl
-length-set' (x ∷ xs) zero w = refl
-length-set' (x ∷ xs) (suc k) w = ap suc (length-set' xs k w)
-
-words-push : (log : Log) (x : ℕ × ℕ) → map (λ (y : ℕ × ℕ). y.1) (log ++ x ∷ []) ≡ map (λ (y : ℕ × ℕ). y.1) log ++ x.1 ∷ []
-words-push [] x = refl
-words-push (y ∷ ys) x = ap (λ l. y.1 ∷ l) (words-push ys x)
 
 done_by-push : (k : ℕ) (log : Log) (x : ℕ × ℕ) → done_by k (log ++ x ∷ []) ≡ done_by k log ++ cond (eqb x.0 k) (x.1 ∷ []) []
 done_by-push k [] x = by (eqb x.0 k)
@@ -72,6 +61,7 @@ snoc_here [] a (suc j) b e = absurd (some-ne-none b (sym e))
 snoc_here (x ∷ xs) a zero b e = inl e
 snoc_here (x ∷ xs) a (suc j) b e = ⊎_elim (λ t. inl t) (λ t. inr (ap suc t.0, t.1)) (snoc_here xs a j b e)
 
+-- an empty queue
 begins_fifo : IsFifo [] (done [] [] 0 ∷ [])
 begins_fifo = record {
   pushes = [];
@@ -86,52 +76,54 @@ begins_fifo = record {
     one (suc k) v e = absurd (some-ne-none v (sym e))
 
 same_length : (log : Log) (views : List Done) (id : ℕ) (w : Done) → All (λ (x : ℕ × ℕ). x.0 < length views) log → All (λ (x : ℕ × ℕ). x.0 < length (set views id w)) log
-same_length log views id w all = let e = length-set' views id w in all_map (λ (x : ℕ × ℕ). x.0 < length views) (λ (x : ℕ × ℕ). x.0 < length (set views id w)) log (λ x l. omega (arith, l, e)) all
+same_length log views id w all = let e = length-set views id w in all_map (λ (x : ℕ × ℕ). x.0 < length views) (λ (x : ℕ × ℕ). x.0 < length (set views id w)) log (λ x l. omega (arith, l, e)) all
 
+-- a push
 puts_fifo : (id : ℕ) (v : Done) (x : ℕ) (items : List ℕ) (views : List Done) → IsFifo items views → At views id v → IsFifo (items ++ x ∷ []) (set views id (puts v x))
 puts_fifo id v x items views f at =
     let w = puts v x in
     let mine = f.each id v at in
     let more = f.pushes ++ (id, x) ∷ [] in
     let here = within views id v at in
-    let long = length-set' views id w in record {
+    let long = length-set views id w in record {
       pushes = more;
       pops = f.pops;
-      in_order = words-push f.pushes (id, x) ∙ ap (λ l. l ++ x ∷ []) f.in_order ∙ append_assoc (map (λ (y : ℕ × ℕ). y.1) f.pops) items (x ∷ []);
+      in_order = map_push (λ (y : ℕ × ℕ). y.1) f.pushes (id, x) ∙ ap (λ l. l ++ x ∷ []) f.in_order ∙ append_assoc (map (λ (y : ℕ × ℕ). y.1) f.pops) items (x ∷ []);
       each = each_set (λ k u. (u.pushed ≡ done_by k more) × (u.popped ≡ done_by k f.pops)) views id w
           (ap (λ l. l ++ x ∷ []) mine.0 ∙ sym (done_by-mine id f.pushes x), mine.1)
           (λ j u apart e. let m = f.each j u e in (m.0 ∙ sym (done_by-other j id f.pushes x apart), m.1));
       known = (
-        All-append (λ (y : ℕ × ℕ). y.0 < length (set views id w)) f.pushes ((id, x) ∷ []) (same_length f.pushes views id w f.known.0) (all_one (λ (y : ℕ × ℕ). y.0 < length (set views id w)) (id, x) (omega (arith, here, long))),
+        All-append (λ (y : ℕ × ℕ). y.0 < length (set views id w)) f.pushes ((id, x) ∷ []) (same_length f.pushes views id w f.known.0) (All-cons (λ (y : ℕ × ℕ). y.0 < length (set views id w)) (id, x) [] (omega (arith, here, long)) (All-nil (λ (y : ℕ × ℕ). y.0 < length (set views id w)))),
         same_length f.pops views id w f.known.1,
       );
     }
 
+-- a pop
 takes_fifo : (id : ℕ) (v : Done) (x : ℕ) (items : List ℕ) (views : List Done) → IsFifo (x ∷ items) views → At views id v → IsFifo items (set views id (takes v x))
 takes_fifo id v x items views f at =
     let w = takes v x in
     let mine = f.each id v at in
     let more = f.pops ++ (id, x) ∷ [] in
     let here = within views id v at in
-    let long = length-set' views id w in record {
+    let long = length-set views id w in record {
       pushes = f.pushes;
       pops = more;
-      in_order = f.in_order ∙ sym (append_assoc (map (λ (y : ℕ × ℕ). y.1) f.pops) (x ∷ []) items) ∙ ap (λ l. l ++ items) (sym (words-push f.pops (id, x)));
+      in_order = f.in_order ∙ sym (append_assoc (map (λ (y : ℕ × ℕ). y.1) f.pops) (x ∷ []) items) ∙ ap (λ l. l ++ items) (sym (map_push (λ (y : ℕ × ℕ). y.1) f.pops (id, x)));
       each = each_set (λ k u. (u.pushed ≡ done_by k f.pushes) × (u.popped ≡ done_by k more)) views id w
           (mine.0, ap (λ l. l ++ x ∷ []) mine.1 ∙ sym (done_by-mine id f.pops x))
           (λ j u apart e. let m = f.each j u e in (m.0, m.1 ∙ sym (done_by-other j id f.pops x apart)));
       known = (
         same_length f.pushes views id w f.known.0,
-        All-append (λ (y : ℕ × ℕ). y.0 < length (set views id w)) f.pops ((id, x) ∷ []) (same_length f.pops views id w f.known.1) (all_one (λ (y : ℕ × ℕ). y.0 < length (set views id w)) (id, x) (omega (arith, here, long))),
+        All-append (λ (y : ℕ × ℕ). y.0 < length (set views id w)) f.pops ((id, x) ∷ []) (same_length f.pops views id w f.known.1) (All-cons (λ (y : ℕ × ℕ). y.0 < length (set views id w)) (id, x) [] (omega (arith, here, long)) (All-nil (λ (y : ℕ × ℕ). y.0 < length (set views id w)))),
       );
     }
 
--- the count is no matter of the order
+-- a pass more, beside one whose count may have gone up: neither matters to the order
 forks_fifo : (id : ℕ) (v : Done) (count : ℕ) (items : List ℕ) (views : List Done) → IsFifo items views → At views id v → IsFifo items (set views id (done v.pushed v.popped count) ++ done [] [] 0 ∷ [])
 forks_fifo id v count items views f at =
     let w = done v.pushed v.popped count in
     let vs = set views id w in
-    let same = length-set' views id w in
+    let same = length-set views id w in
     let long = length-append vs (done [] [] 0 ∷ []) in
     let more : (log : Log) → All (λ (x : ℕ × ℕ). x.0 < length views) log → All (λ (x : ℕ × ℕ). x.0 < length (vs ++ done [] [] 0 ∷ [])) log = λ log all. all_map (λ (x : ℕ × ℕ). x.0 < length views) (λ (x : ℕ × ℕ). x.0 < length (vs ++ done [] [] 0 ∷ [])) log (λ x l. omega (arith, l, same, long)) all in record {
       pushes = f.pushes;
@@ -147,6 +139,7 @@ forks_fifo id v count items views f at =
       known = (more f.pushes f.known.0, more f.pops f.known.1);
     }
 
+-- what the calls of the queue ask for
 module _ (past : List ℕ → List Done → Type 0) where
   pub begins : past [] (done [] [] 0 ∷ []) → Kept past [] (done [] [] 0 ∷ [])
   begins p = (begins_fifo, p)

@@ -1,5 +1,6 @@
 -- In a past in which a queue was never empty each step may be taken.
 use Rattle.std.proofs.Common.{◌≡◌, ◌≢◌, ◌⊎◌, ℕ, zero, suc, ◌<◌, List, [], ◌∷◌, ◌++◌, set, refl, sym, ap, ◌∙◌, subst, inl, inr, ⊎_elim, arith, length-append}
+use Rattle.crossbeam_queue.proofs.Lists.{at_longer}
 use mathlib.Core.Option.{some-injective, some-ne-none}
 use Rattle.wake_queue.specs.declared.rule.Done.{Done}
 use Rattle.wake_queue.specs.Wakes.{done, puts, takes, found, At, Was, Steps}
@@ -9,11 +10,6 @@ at_same : (l : List Done) (k : ℕ) (v w : Done) → At l k v → At (set l k w)
 at_same [] k v w e = absurd (some-ne-none v (sym e))
 at_same (x ∷ xs) zero v w e = refl
 at_same (x ∷ xs) (suc k) v w e = at_same xs k v w e
-
-at_more : (l m : List Done) (k : ℕ) (v : Done) → At l k v → At (l ++ m) k v
-at_more [] m k v e = absurd (some-ne-none v (sym e))
-at_more (x ∷ xs) m zero v e = e
-at_more (x ∷ xs) m (suc k) v e = at_more xs m k v e
 
 module _ (number : ℕ) (v : Done) where
   abbrev Mine : List ℕ → Done → Type 0
@@ -29,8 +25,8 @@ module _ (number : ℕ) (v : Done) where
   steps = record {
     push = λ items views u x p at. (puts u x, at_same views number u (puts u x) at, later items (items ++ x ∷ []) u (puts u x) (same items views u p at) (let l = length-append u.pushed (x ∷ []) in omega (arith, l)));
     pop = λ items views u x p at. (takes u x, at_same views number u (takes u x) at, later (x ∷ items) items u (takes u x) (same (x ∷ items) views u p at) (let l = length-append u.popped (x ∷ []) in omega (arith, l)));
-    another = λ items views u p at. (u, at_more (set views number u) (done [] [] 0 ∷ []) number u (at_same views number u u at), same items views u p at);
-    find = λ items views u p at was. (found u, at_more (set views number (found u)) (done [] [] 0 ∷ []) number (found u) (at_same views number u (found u) at), later items items u (found u) (same items views u p at) (omega arith));
+    another = λ items views u p at. (u, at_longer (set views number u) (done [] [] 0 ∷ []) number u (at_same views number u u at), same items views u p at);
+    find = λ items views u p at was. (found u, at_longer (set views number (found u)) (done [] [] 0 ∷ []) number (found u) (at_same views number u (found u) at), later items items u (found u) (same items views u p at) (omega arith));
   }
 
   -- whatever it held, but for nothing, may be known of it
