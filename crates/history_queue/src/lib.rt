@@ -2,5 +2,10 @@
 #![tactic(auto)]
 
 mod item;
+mod queue;
 
 pub use item::Item;
+pub use queue::HistoryQueue;
+
+#[cfg(test)]
+mod tests;
