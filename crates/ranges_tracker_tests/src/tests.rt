@@ -4,10 +4,10 @@ ghost use Rattle.std.specs.Prelude.{◌≡◌, ◌∷◌, [], ◌<◌, ◌+◌, 
 ghost use Rattle.ot_op.specs.Operation.{is_void, units_of};
 ghost use Rattle.ranges_tracker.specs.Trackable.{AreRangesAt};
 
-use crate::{Change, ChangeKind, Comment, KeptDoc, Lines, Ranges, Stamp, track, track_op};
 use Kind::{Comments, Deletes, Inserts};
 use ot_op::{Comp, Op, apply};
 use ot_units::{Name, Units};
+use ranges_tracker::{Change, ChangeKind, Comment, KeptDoc, Lines, Ranges, Stamp, track, track_op};
 use std::alloc::{AllocError, Global};
 use std::process::Abort;
 use std::test::Fail;
@@ -390,28 +390,49 @@ fn read(alloc: Global, version: u64, row: Row) -> Result<(Comp, Stamp), Fail>
     Ok((comp, stamp))
 }
 
-fn shown(alloc: Global, changes: &[Shown], notes: &[Noted]) -> Result<Ranges, Fail> {
+fn change(alloc: Global, (version, k, kind, at, text, user): Shown) -> Result<Change, Fail> {
+    let text = Units::sanitized(alloc, text)?;
+    let user = name(alloc, user)?;
+    Ok(Change {
+        version,
+        k,
+        at,
+        kind,
+        text,
+        user,
+        ms: 5,
+    })
+}
+
+fn comment(alloc: Global, (at, text): Noted) -> Result<Comment, Fail> {
+    let text = Units::sanitized(alloc, text)?;
+    Ok(Comment {
+        thread: 7,
+        at,
+        text,
+    })
+}
+
+fn changes(alloc: Global, rows: &[Shown]) -> Result<Vec<Change>, Fail> {
     let mut made = Vec::new(alloc);
-    for (version, k, kind, at, text, user) in changes {
-        made.push(Change {
-            version: *version,
-            k: *k,
-            at: *at,
-            kind: *kind,
-            text: Units::sanitized(alloc, text)?,
-            user: name(alloc, user)?,
-            ms: 5,
-        })?;
+    for row in rows {
+        made.push(change(alloc, *row)?)?;
     }
-    let mut comments = Vec::new(alloc);
-    for (at, text) in notes {
-        comments.push(Comment {
-            thread: 7,
-            at: *at,
-            text: Units::sanitized(alloc, text)?,
-        })?;
+    Ok(made)
+}
+
+fn comments(alloc: Global, rows: &[Noted]) -> Result<Vec<Comment>, Fail> {
+    let mut made = Vec::new(alloc);
+    for row in rows {
+        made.push(comment(alloc, *row)?)?;
     }
-    Ok(Ranges::of(made, comments))
+    Ok(made)
+}
+
+fn shown(alloc: Global, rows: &[Shown], notes: &[Noted]) -> Result<Ranges, Fail> {
+    let changes = changes(alloc, rows)?;
+    let comments = comments(alloc, notes)?;
+    Ok(Ranges::of(changes, comments))
 }
 
 // The ranges after updates by versions from 0.
@@ -463,7 +484,6 @@ fn pair(alloc: Global, first: Comp, second: Comp) -> Result<Op, Fail>
 }
 
 // On the empty text, `ab` goes in, and `a` out.
-#[tactic(auto, using(crate::proofs::Small::first_fit))]
 fn track_pair(alloc: Global, stamp: &Stamp) -> Result<Ranges, Fail> {
     let both = Comp::Ins(0, Units::from_slice(alloc, &[0x61, 0x62])?);
     let out = Comp::Del(0, Units::from_slice(alloc, &[0x61])?);
@@ -513,30 +533,40 @@ fn keep_marked(alloc: Global, user: Name) -> Result<KeptDoc, Fail> {
     Ok(doc)
 }
 
+// Whether these are the lines `a` and `b`.
+fn are_marked(alloc: Global, lines: &[Units]) -> Result<bool, Fail> {
+    let mut texts = String::new(alloc);
+    for line in lines {
+        texts.push_str(line.to_text(alloc)?.as_str())?;
+        texts.push(';')?;
+    }
+    Ok(texts.as_str() == "a;b;")
+}
+
+// Whether a document is the one that `keep_marked` keeps, with these ranges.
+fn is_marked(alloc: Global, kept: &KeptDoc, want: &Ranges) -> Result<bool, Fail> {
+    let text = kept.text(alloc)?;
+    let ranges = kept.ranges();
+    Ok(
+        are_marked(alloc, kept.lines().as_slice())?
+            && kept.version() == 3
+            && ranges.changes() == want.changes()
+            && ranges.comments() == want.comments()
+            && text.as_slice() == [0x61, 0x0A, 0x62].as_slice(),
+    )
+}
+
 #[test]
 fn keeps_lines(rt: HostRuntime) -> Result<(), Fail> {
     let alloc = rt.alloc();
     let doc = keep_marked(alloc, name(alloc, "u")?)?;
-    let copy = doc.copy(alloc)?;
     let want = shown(
         alloc,
         &[(2, 0, ChangeKind::Inserted, 2, "b", "u")],
         &[(0, "a")],
     )?;
-    for kept in [&doc, &copy] {
-        let mut lines = Vec::new(alloc);
-        for line in kept.lines().as_slice() {
-            lines.push(line.to_text(alloc)?)?;
-        }
-        assert_eq!(rt; lines.len(), 2);
-        assert_eq!(rt; lines[0].as_str(), "a");
-        assert_eq!(rt; lines[1].as_str(), "b");
-        assert_eq!(rt; kept.version(), 3);
-        assert_eq!(rt; kept.ranges().changes(), want.changes());
-        assert_eq!(rt; kept.ranges().comments(), want.comments());
-        let text = kept.text(alloc)?;
-        assert_eq!(rt; text.as_slice(), [0x61, 0x0A, 0x62].as_slice());
-    }
+    assert!(rt; is_marked(alloc, &doc, &want)?);
+    assert!(rt; is_marked(alloc, &doc.copy(alloc)?, &want)?, "the copy");
     Ok(())
 }
 

@@ -1,8 +1,8 @@
 use Rattle.std.proofs.Common.{◌≡◌, ◌∙◌, ◌++◌, ◌∷◌, [], List, ℕ, ap}
 use Rattle.ot_parts.specs.Lines.{joined_lines}
 use Rattle.ranges_tracker.specs.Kept.{lengthened}
-use Rattle.ranges_tracker.proofs.Small.{two_lines_kept}
-use Rattle.ranges_tracker.proofs.tests.makes_lines_piece_by_piece.Goals as goal
+use Rattle.ranges_tracker_tests.proofs.Small.{two_lines_kept}
+use Rattle.ranges_tracker_tests.proofs.tests.makes_lines_piece_by_piece.Goals as goal
 
 pub of_lines-requires : goal.of_lines-requires
 of_lines-requires g c =

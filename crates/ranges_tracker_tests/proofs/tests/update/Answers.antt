@@ -3,7 +3,7 @@ use Rattle.ot_op.specs.Apply.{applied, applied_all}
 use Rattle.ot_op.specs.declared.comp.Comp.{Comp}
 use Rattle.ranges_tracker.specs.Trackable.{IsFitStep, StaysInStep}
 use Rattle.ranges_tracker.proofs.Versions.{at_in, fit_of, in_next}
-use Rattle.ranges_tracker.proofs.tests.update.Goals as goal
+use Rattle.ranges_tracker_tests.proofs.tests.update.Goals as goal
 use Rattle.ot_op.proofs.Applying.{First, first_of_all}
 
 -- an operation of one component

@@ -2,7 +2,7 @@
 use Rattle.std.proofs.Common.{length, ◌≡◌, ℕ, ◌<◌, true, List, [], ◌∷◌, refl, arith, sym, subst}
 use Rattle.ot_op.specs.declared.comp.Comp.{Comp}
 use Rattle.ot_op.specs.declared.comp.Comp.TheVariants.{Ins, Del}
-use Rattle.ranges_tracker.specs.Cells.{Stamp}
+use Rattle.ranges_tracker.specs.declared.stamp.Stamp.{Stamp}
 use Rattle.ranges_tracker.specs.declared.change.Change.{Change}
 use Rattle.ranges_tracker.specs.declared.comment.Comment.{Comment}
 use Rattle.ot_op.specs.Apply.{stands}

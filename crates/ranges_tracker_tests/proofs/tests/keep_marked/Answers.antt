@@ -2,8 +2,8 @@ use Rattle.std.proofs.Common.{◌≡◌, ◌∙◌, ◌++◌, ◌∷◌, [], Lis
 use Rattle.ranges_tracker.specs.declared.change.Change.{Change}
 use Rattle.ranges_tracker.specs.declared.change.ChangeKind.TheVariants.{Inserted}
 use Rattle.ranges_tracker.specs.declared.comment.Comment.{Comment}
-use Rattle.ranges_tracker.proofs.Small.{marked_kept, marked_changes, marked_comments}
-use Rattle.ranges_tracker.proofs.tests.keep_marked.Goals as goal
+use Rattle.ranges_tracker_tests.proofs.Small.{marked_kept, marked_changes, marked_comments}
+use Rattle.ranges_tracker_tests.proofs.tests.keep_marked.Goals as goal
 
 pub make-requires-clause-kept : goal.make-requires-clause-kept
 make-requires-clause-kept c =
