@@ -1,6 +1,6 @@
 //! What the calls answer with ample memory, also at the borders of chunks and of blocks.
 
-use crate::{OpenText, Text, TextParts, doc_part, doc_text, doc_units};
+use ot_text::{OpenText, Text, TextParts, doc_part, doc_text, doc_units};
 use ot_units::Units;
 use std::alloc::{AllocError, Global};
 use std::test::Fail;
