@@ -1,6 +1,6 @@
 //! Runs over sources and sinks in memory.
 
-use crate::run_alone;
+use session_runner::run_alone;
 use source_sink::{ByteSink, ByteSource, INPUT_LIMIT};
 use std::alloc::Global;
 use std::process::Abort;
