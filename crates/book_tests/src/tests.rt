@@ -5,7 +5,7 @@ ghost use Rattle.ot_op.specs.declared.comp.Comp.TheVariants.{Ins};
 ghost use Rattle.dup_check.specs.declared.snapshot.Snapshot.{Snapshot};
 ghost use Rattle.book.specs.Looking.{IsDecided, IsOf};
 
-use crate::{AcquireFault, Book, By, CommitFault, Prepared, RawUpdate};
+use book::{AcquireFault, Book, By, CommitFault, Prepared, RawUpdate};
 use dup_check::decide;
 use expiring_lock::{Busy, Stale};
 use journal_entries::{Act, Outcome, Sources};

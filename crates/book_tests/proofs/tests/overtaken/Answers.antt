@@ -3,7 +3,7 @@ use Rattle.turn_rules.specs.Turns.{entry_by}
 use Rattle.turn_rules.specs.Locking.{acquired}
 use Rattle.book.specs.Shown.{Shown}
 use Rattle.book.proofs.Fenced.{begins, stays_on}
-use Rattle.book.proofs.tests.overtaken.Goals as goal
+use Rattle.book_tests.proofs.tests.overtaken.Goals as goal
 
 pub returns-clause-first : goal.returns-clause-first
 returns-clause-first c =

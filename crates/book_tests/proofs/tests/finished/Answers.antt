@@ -10,7 +10,7 @@ use Rattle.turn_rules.specs.Turns.{entry_by}
 use Rattle.book.specs.Looking.{IsOf, IsSince}
 use Rattle.book.specs.Shown.{Shown}
 use Rattle.book.proofs.Fenced.{since_more, since_of, stays_on, token_holds}
-use Rattle.book.proofs.tests.finished.Goals as goal
+use Rattle.book_tests.proofs.tests.finished.Goals as goal
 
 pub release-requires : goal.release-requires
 release-requires c = record {

@@ -3,7 +3,7 @@ use Rattle.journal_entries.specs.declared.act.Act.TheVariants.{Ticked}
 use Rattle.turn_rules.specs.Turns.{entry_by}
 use Rattle.book.specs.Shown.{Shown}
 use Rattle.book.proofs.Fenced.{stays_on}
-use Rattle.book.proofs.tests.wait.Goals as goal
+use Rattle.book_tests.proofs.tests.wait.Goals as goal
 
 pub returns : goal.returns
 returns c =
