@@ -1,12 +1,12 @@
 //! The lines of entries of each kind, and of documents. `'` stands for a quotation mark.
 
-use crate::{DocEnd, doc_line, entry_line};
 use expiring_lock::{Busy, Stale};
 use history_queue::Item;
 use journal_entries::{Act, Brief, Cause, Entry, Outcome, Sources, Update, Why};
 use ot_op::{Comp, FormFault, Op};
 use ot_units::{Name, Units};
 use ranges_tracker::{Change, ChangeKind, Comment, Ranges};
+use report_text::{DocEnd, doc_line, entry_line};
 use std::alloc::Global;
 use std::test::Fail;
 
