@@ -1,5 +1,5 @@
 //! Scripts read, on lines that the form of a script names.
-use crate::read_script;
+use session_lines::read_script;
 use std::alloc::Global;
 use std::test::Fail;
 
