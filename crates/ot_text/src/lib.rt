@@ -19,8 +19,6 @@ mod open_text;
 mod parts;
 mod patch;
 mod place;
-#[cfg(test)]
-mod tests;
 mod text;
 
 pub use lines::TextLines;

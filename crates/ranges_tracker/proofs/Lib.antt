@@ -7,7 +7,6 @@ pub mod Deleting
 pub mod Pushing
 pub mod Making
 pub mod Merging
-pub mod Small
 pub mod Rooms
 pub mod Commenting
 pub mod Stepping

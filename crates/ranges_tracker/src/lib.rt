@@ -19,8 +19,6 @@ mod mixing;
 mod ranges;
 mod runs;
 mod stamp;
-#[cfg(test)]
-mod tests;
 mod texts;
 mod tracking;
 

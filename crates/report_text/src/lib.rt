@@ -14,6 +14,3 @@ mod why;
 
 pub use document_end::{DocEnd, doc_line};
 pub use entry::entry_line;
-
-#[cfg(test)]
-mod tests;

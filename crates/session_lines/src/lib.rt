@@ -26,6 +26,3 @@ pub use line::Line;
 pub use names::Names;
 pub use read::read_script;
 pub use script::{Lines, Script};
-
-#[cfg(test)]
-mod tests;

@@ -9,6 +9,3 @@ mod report;
 mod run;
 
 pub use run::run_alone;
-
-#[cfg(test)]
-mod tests;
