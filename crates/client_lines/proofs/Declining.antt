@@ -1,6 +1,6 @@
 -- What a line of a client makes is what the rules say of it.
 use Rattle.std.proofs.Common.{◌≡◌, ◌≢◌, ◌⊎◌, inl, inr, ℕ, ◌+◌, ◌<◌, ◌≤◌, List, [], ◌∷◌, ◌++◌, length, Bool, true, false, not, ◌||◌, refl, sym, ap, ap₂, ◌∙◌, subst, arith}
-use Rattle.std.specs.Prelude.{slice_get, Option, Some, None, nat_lt, if◌then◌else◌}
+use Rattle.std.specs.Prelude.{slice_get, Result, Ok, Err, OnOk, Option, Some, None, nat_lt, if◌then◌else◌}
 use Rattle.std.proofs.lemmas.Bool.{ltb-true}
 use Rattle.ot_op.specs.declared.comp.Comp.{Comp}
 use Rattle.ot_op.specs.Compose.{appended}
@@ -27,7 +27,10 @@ use Rattle.share_client.specs.declared.edit.EditFault.TheVariants as edit
 use Rattle.share_client.specs.declared.send.SendFault.{SendFault}
 use Rattle.share_client.specs.declared.send.SendFault.TheVariants as send
 use Rattle.turn_rules.specs.Clients.{edit_act_of, got_act, is_joined, recv_act, send_act, sent_or_nothing}
-use Rattle.book.specs.Roomed.{IsClientOf}
+use Rattle.book.specs.Roomed.{IsClientAfter, IsClientOf}
+use Rattle.book.specs.Shown.{Shown, adds}
+use Rattle.turn_rules.specs.Turns.{entry_by}
+use Rattle.journal_rules.proofs.Pushing.{client-push}
 use Rattle.book.proofs.Serving.{sending_now}
 use Rattle.client_lines.specs.Refusals.{edit_why, send_why}
 
@@ -205,3 +208,14 @@ got_first session (x ∷ xs) m is = ap (λ n. Got session (brief_of n)) (some_sa
 pub got_none : (ms : List Msg) → None ≡ slice_get ms 0 → ms ≡ []
 got_none [] is = refl
 got_none (x ∷ xs) is = absurd (cc)
+
+-- ---- a client behind a line that was declined
+pub on_ok : {T E A B : Type 0} (r : Result T E) → (A → B) → OnOk r A → OnOk r B
+on_ok (Ok x) f a = f a
+on_ok (Err e) f a = tt
+
+pub declined_client : (left last : Shown) (seat : ℕ) (line : Option ℕ) (session : ℕ) (y : Why) (was now : Numbered) → IsClientOf left.journal was → now ≡ was → last ≡ adds left seat line (Declined session y ∷ []) → IsClientAfter last.journal was now
+declined_client left last seat line session y was now own same is = record {
+  client_is = ap (λ (x : Numbered). x.client) same;
+  stands = ap (λ (x : Numbered). x.now) same ∙ own ∙ sym (client-push was.client left.journal (entry_by seat line (Declined session y))) ∙ ap (client was.client) (sym (ap (λ (b : Shown). b.journal) is)) ∙ ap (λ (x : Numbered). client x.client last.journal) (sym same);
+}

@@ -1,12 +1,12 @@
 //! A client joins a document.
 
-ghost use Rattle.std.specs.Prelude.{◌≡◌, ◌∷◌, [], OnOk, None};
+ghost use Rattle.std.specs.Prelude.{◌≡◌, ◌∷◌, [], ℕ, OnOk, Some, true};
 ghost use Rattle.book.specs.Roomed.{IsClientAfter, IsClientOf};
 ghost use Rattle.book.specs.Shown.{adds};
 ghost use Rattle.journal_rules.specs.Documents.{number_of};
 ghost use Rattle.journal_rules.specs.Legal.{IsLegal};
-ghost use Rattle.run_rules.specs.Lines.{Joins};
-ghost use Rattle.turn_rules.specs.Turns.{Alone, Turn, entry_by};
+ghost use Rattle.journal_rules.specs.Keeping.{cached};
+ghost use Rattle.client_lines.specs.Joining.{join_act};
 
 use book::{Book, By, JoinFault};
 use journal_entries::Why;
@@ -25,9 +25,9 @@ pub fn join_named(
     track: bool,
 ) -> Result<(), AllocError>
     requires { IsClientOf book.old.journal client.old }
-    ensures joins { OnOk result (Turn Alone (λ look made. Joins (entry_by by.seat by.line) client.old.client (number_of name.now look) user.now track look made) book.old.journal book.new.journal) }
+    ensures joins { OnOk result (book.new ≡ adds book.old by.seat by.line (join_act client.old.client (number_of name.now book.old.journal) user.now track book.old.journal ∷ [])) }
+    ensures cached { OnOk result ((doc : ℕ) → number_of name.now book.old.journal ≡ Some doc → cached doc book.old.journal ≡ true) }
     ensures client { OnOk result (IsClientAfter book.new.journal client.old client.new) }
-    ensures drivers { OnOk result (book.new.drivers ≡ book.old.drivers) }
 {
     let Some(doc) = book.find(name) else {
         return book.decline(by, client.client(), Why::NoDoc);

@@ -17,8 +17,8 @@ pub fn receive(book: &mut Book, client: &mut ShareClient, by: By) -> Result<(), 
     ensures gets { OnOk result (book.new ≡ adds book.old by.seat by.line (recv_act client.old.client book.old.journal ∷ [])) }
     ensures client { OnOk result (IsClientAfter book.new.journal client.old client.new) }
 {
-    match book.receive(by, client)? {
-        Some(_) => Ok(()),
-        None => book.decline(by, client.client(), Why::Empty),
-    }
+    let Some(_message) = book.receive(by, client)? else {
+        return book.decline(by, client.client(), Why::Empty);
+    };
+    Ok(())
 }
