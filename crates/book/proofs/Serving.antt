@@ -1,5 +1,5 @@
 -- What a call for a client leaves: its entry is allowed, and the client that was handed in is the journal's again.
-use Rattle.std.proofs.Common.{◌≡◌, ◌≢◌, ℕ, zero, suc, ◌+◌, ◌≤◌, ◌<◌, List, [], ◌∷◌, ◌++◌, length, take, drop, Bool, true, false, not, ◌||◌, refl, sym, ap, ◌∙◌, subst, arith, eqb, eq-eqb, ne_eqb}
+use Rattle.std.proofs.Common.{◌≡◌, ◌≢◌, ◌⊎◌, inl, inr, ℕ, zero, suc, ◌+◌, ◌≤◌, ◌<◌, List, [], ◌∷◌, ◌++◌, length, take, drop, Bool, true, false, not, ◌||◌, refl, sym, ap, ◌∙◌, subst, arith, eqb, eq-eqb, ne_eqb}
 use Rattle.std.specs.Prelude.{Option, Some, None, is_some, nat_lt, nat_le, unwrap_or, if◌then◌else◌}
 use Rattle.std.specs.Str.{bytes_eq}
 use Rattle.std.proofs.lemmas.Bool.{ltb-false, le-leb, or_parts}
@@ -16,7 +16,7 @@ use Rattle.ot_op.specs.declared.limits.TheConstants.{MAX_COMPONENTS, MAX_OPERATI
 use Rattle.journal_entries.specs.declared.message.Msg.{Msg}
 use Rattle.journal_entries.specs.declared.update.Update.{Update}
 use Rattle.journal_entries.specs.declared.act.Act.{Act}
-use Rattle.journal_entries.specs.declared.act.Act.TheVariants.{Joined as JoinedAct, Edited, Sent, Got}
+use Rattle.journal_entries.specs.declared.act.Act.TheVariants.{Joined as JoinedAct, Edited, Sent, Got, Left as LeftAct}
 use Rattle.journal_entries.specs.declared.act.Entry.{Entry}
 use Rattle.journal_rules.specs.declared.state.ClientState.{ClientState}
 use Rattle.journal_rules.specs.declared.state.ClientState.TheVariants.{Away, Joined, Left, Stale}
@@ -31,6 +31,7 @@ use Rattle.journal_rules.proofs.Lists.{some_same}
 use Rattle.journal_laws.proofs.Updates.{text_at_version}
 use Rattle.journal_laws.proofs.World.{joined_alive}
 use Rattle.journal_laws.proofs.Laws.{shows}
+use Rattle.turn_rules.specs.Clients.{is_present}
 use Rattle.share_client.specs.Clients.{Numbered, pending_fault, send_fault, unless_away}
 use Rattle.share_client.specs.declared.edit.Edit.{Edit}
 use Rattle.share_client.specs.declared.edit.Edit.TheVariants.{Insert, Delete, Comment}
@@ -72,6 +73,9 @@ joined_client j k e was now doc user track source v here more is at text_is own 
     client_after j k e was now (rules.joined_anew was.now doc user track source v here) more
     (ap (λ a. client_by was.client j a was.now) is ∙ if_own was.client (rules.joined_by was.now j doc user track None source v) was.now
     ∙ ap (λ o. rules.joined_anew was.now doc user track source v (unwrap_or o [])) (ap (λ n. text_at doc n j) at ∙ text_at_version doc j ∙ text_is)) own now_is
+
+pub left_client : (j k : List Entry) (e : Entry) (was now : Numbered) → k ≡ j ++ e ∷ [] → e.act ≡ LeftAct was.client → IsClientOf j was → now ≡ record was { now = rules.left_by was.now } → IsClientAfter k was now
+left_client j k e was now more is own now_is = client_after j k e was now (rules.left_by was.now) more (ap (λ a. client_by was.client j a was.now) is ∙ if_own was.client (rules.left_by was.now) was.now) own now_is
 
 -- it is the journal's client still, where nothing was written
 pub same_client : (j k : List Entry) (was now : Numbered) → k ≡ j → IsClientOf j was → now ≡ was → IsClientAfter k was now
@@ -190,3 +194,13 @@ unless_joined st x y joined is = sym (some_same y x (is ∙ ap (λ t. unless_awa
 -- ---- messages
 pub may_get : (j : List Entry) (seat c : ℕ) (m : Msg) (rest : List Msg) → mail c j ≡ m ∷ rest → IsAllowed j seat (Got c (brief_of m))
 may_get j seat c m rest first = record { message = m; rest = rest; first = first; brief_is = refl }
+
+-- ---- leaving
+pub may_leave : (j : List Entry) (seat : ℕ) (was : Numbered) → IsClientOf j was → is_present was.now.state ≡ true → IsAllowed j seat (LeftAct was.client)
+may_leave j seat was own present = subst (λ (s : rules.Client). (s.state ≡ Joined) ⊎ (s.state ≡ Stale)) own (by was.now.state present)
+  where
+    by : (st : ClientState) → is_present st ≡ true → (st ≡ Joined) ⊎ (st ≡ Stale)
+    by Joined e = inl refl
+    by Stale e = inr refl
+    by Away e = absurd (cc)
+    by Left e = absurd (cc)

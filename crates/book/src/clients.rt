@@ -1,20 +1,21 @@
 //! The calls of a book for clients.
 
-ghost use Rattle.std.specs.Prelude.{◌≡◌, ◌<◌, ◌^◌, ◌+◌, ◌∷◌, [], length, slice_get, IfOk, IfErr, IfSome, OnOk, OnErr, None, Some};
-ghost use Rattle.journal_entries.specs.declared.act.Act.TheVariants.{Joined, Edited, Sent, Got};
+ghost use Rattle.std.specs.Prelude.{◌≡◌, ◌<◌, ◌^◌, ◌+◌, ◌∷◌, [], length, slice_get, true, IfOk, IfErr, IfSome, OnOk, OnErr, None, Some};
+ghost use Rattle.journal_entries.specs.declared.act.Act.TheVariants.{Joined, Edited, Sent, Got, Left};
 ghost use Rattle.journal_rules.specs.Documents.{IsMade, version};
 ghost use Rattle.journal_rules.specs.Legal.{brief_of, source_at};
 ghost use Rattle.journal_rules.specs.Locks.{clock};
 ghost use Rattle.journal_rules.specs.Mail.{mail};
 ghost use Rattle.journal_rules.specs.Client.{update_from};
+ghost use Rattle.turn_rules.specs.Clients.{is_present};
 ghost use Rattle.share_client.specs.Clients.{send_fault, told_send};
 ghost use Rattle.share_client.specs.Edits.{IsEdit, IsRefusal, edit_comp, edit_fault, edit_length};
 ghost use Rattle.book.specs.Shown.{adds};
 ghost use Rattle.book.specs.Roomed.{IsClientAfter, IsClientOf};
-ghost use Rattle.book.specs.Calls.{MayNotJoin};
+ghost use Rattle.book.specs.Calls.{MayNotJoin, MayNotLeave};
 
 use crate::book::{Book, entry_of};
-use crate::faults::{By, JoinFault};
+use crate::faults::{By, JoinFault, LeaveFault};
 use crate::mail::reserve_waiting;
 use crate::room::make_room;
 use journal_entries::{Act, Brief, FIRST_SOURCE, Msg, Update};
@@ -77,12 +78,7 @@ impl Book {
     }
 
     /// A client edits its text. It's refused as [`ShareClient::edit`] refuses it.
-    pub fn edit(
-        &mut self,
-        by: By,
-        client: &mut ShareClient,
-        edit: &Edit,
-    ) -> Result<(), EditFault>
+    pub fn edit(&mut self, by: By, client: &mut ShareClient, edit: &Edit) -> Result<(), EditFault>
         requires client { IsClientOf self.old.journal client.old }
         requires edit { IsEdit edit.now }
         ensures ok { OnOk result ((edit_fault client.old.now edit.now ≡ None) × (self.new ≡ adds self.old by.seat by.line (Edited client.old.client (edit_comp client.old.now.text edit.now) ∷ []))) }
@@ -156,11 +152,7 @@ impl Book {
 
     /// A client gets the first message of its mail, which is answered, or `None` where its mail is
     /// empty.
-    pub fn receive(
-        &mut self,
-        by: By,
-        client: &mut ShareClient,
-    ) -> Result<Option<Msg>, AllocError>
+    pub fn receive(&mut self, by: By, client: &mut ShareClient) -> Result<Option<Msg>, AllocError>
         requires { IsClientOf self.old.journal client.old }
         ensures first { IfOk result (λ m. m ≡ slice_get (mail client.old.client self.old.journal) 0) }
         ensures got { IfOk result (λ m. IfSome m (λ msg. self.new ≡ adds self.old by.seat by.line (Got client.old.client (brief_of msg) ∷ []))) }
@@ -193,6 +185,39 @@ impl Book {
             },
         ));
         Ok(Some(message))
+    }
+
+    /// A client leaves its document and the document's room, where it's told of nothing more. A
+    /// stale client stays stale.
+    pub fn leave(&mut self, by: By, client: &mut ShareClient) -> Result<(), LeaveFault>
+        requires { IsClientOf self.old.journal client.old }
+        ensures ok { OnOk result ((is_present client.old.now.state ≡ true) × (self.new ≡ adds self.old by.seat by.line (Left client.old.client ∷ []))) }
+        ensures client { IsClientAfter self.new.journal client.old client.new }
+        ensures refused { IfErr result (λ f. MayNotLeave client.old.now.state f) }
+        ensures kept { OnErr result ((self.new ≡ self.old) × (client.new ≡ client.old)) }
+    {
+        if !present(client.state()) {
+            return Err(LeaveFault::NotJoined);
+        }
+        let Ok(_sum) = make_room(&mut self.journal, self.owed, 1) else {
+            return Err(LeaveFault::Memory);
+        };
+        let number = client.client();
+        self.rooms.leave(number);
+        client.left();
+        self.journal
+            .push(entry_of(by, Act::Left { client: number }));
+        Ok(())
+    }
+}
+
+// Whether a client is in a room: a stale one is still in its document's.
+fn present(state: ClientState) -> bool
+    ensures { result ≡ is_present state }
+{
+    match state {
+        ClientState::Joined | ClientState::Stale => true,
+        ClientState::Away | ClientState::Left => false,
     }
 }
 
