@@ -1,8 +1,8 @@
 -- The clients in the rooms of a book after one entry more.
-use Rattle.std.proofs.Common.{◌≡◌, ◌≢◌, ◌⊎◌, inl, inr, ℕ, ◌+◌, ◌-◌, ◌≤◌, List, [], ◌∷◌, ◌++◌, length, drop, Bool, true, false, ◌&&◌, refl, sym, ap, ap₂, ◌∙◌, subst, arith, eqb, ne_eqb, length-append}
+use Rattle.std.proofs.Common.{◌≡◌, ◌≢◌, ◌⊎◌, inl, inr, ℕ, ◌+◌, ◌≤◌, List, [], ◌∷◌, ◌++◌, length, drop, Bool, true, false, ◌&&◌, refl, sym, ap, ap₂, ◌∙◌, subst, arith, eqb, length-append}
 use Rattle.std.specs.Prelude.{slice_get, Option, Some, None, option_map, if◌then◌else◌}
 use Rattle.std.proofs.lemmas.Bool.Decides.{eqb_tells}
-use Rattle.rooms.specs.Rooms.{Membership, Roomed, AreRoomier, AreTold, HaveRoom, first_posted, IsRoomier, IsTold, Joins, Moves, Pops, member, posted, posted_in, without_first as rest_of}
+use Rattle.rooms.specs.Rooms.{Membership, Roomed, AreRoomier, AreTold, HaveRoom, first_posted, Joins, Moves, Pops, member, posted, posted_in, without_first as rest_of}
 use Rattle.journal_entries.specs.declared.update.Update.{Update}
 use Rattle.journal_entries.specs.declared.update.Outcome.{Outcome}
 use Rattle.journal_entries.specs.declared.update.Outcome.TheVariants.{Applied, Dup, Refused}
@@ -11,7 +11,7 @@ use Rattle.journal_entries.specs.declared.act.Act.{Act}
 use Rattle.journal_entries.specs.declared.act.Act.TheVariants.{Joined as JoinedAct, Sent, Got, Left as LeftAct, Committed}
 use Rattle.journal_entries.specs.declared.act.Entry.{Entry}
 use Rattle.journal_rules.specs.Client.{is_of}
-use Rattle.journal_rules.specs.Documents.{IsMade, sends, ticket_of, update_at, waiting}
+use Rattle.journal_rules.specs.Documents.{sends, ticket_of, update_at, waiting}
 use Rattle.journal_rules.specs.Legal.{IsLegal}
 use Rattle.journal_rules.proofs.Waits.{committed_below, one_if, waiting-committed, waiting-committed_other, waiting-more}
 use Rattle.mail_places.specs.Places.{IsMailIn, LeavesPlaces, Placed, placed, placed_by, placed_in, told_at, placed_of, placed_own, with_place, without_first}

@@ -1,12 +1,10 @@
 -- What a call for a client leaves: its entry is allowed, and the client that was handed in is the journal's again.
-use Rattle.std.proofs.Common.{◌≡◌, ◌≢◌, ◌⊎◌, inl, inr, ℕ, zero, suc, ◌+◌, ◌≤◌, ◌<◌, List, [], ◌∷◌, ◌++◌, length, take, drop, Bool, true, false, not, ◌||◌, refl, sym, ap, ◌∙◌, subst, arith, eqb, eq-eqb, ne_eqb}
-use Rattle.std.specs.Prelude.{Option, Some, None, is_some, nat_lt, nat_le, unwrap_or, if◌then◌else◌}
-use Rattle.std.specs.Str.{bytes_eq}
+use Rattle.std.proofs.Common.{◌≡◌, ◌⊎◌, inl, inr, ℕ, ◌+◌, ◌≤◌, List, [], ◌∷◌, ◌++◌, length, take, drop, Bool, true, false, not, ◌||◌, refl, sym, ap, ◌∙◌, subst, arith, eqb, eq-eqb, ne_eqb}
+use Rattle.std.specs.Prelude.{Option, Some, None, is_some, nat_lt, unwrap_or, if◌then◌else◌}
 use Rattle.std.proofs.lemmas.Bool.{ltb-false, le-leb, or_parts}
 use Rattle.std.proofs.lemmas.List.{length-take, length-drop}
 use Rattle.std.proofs.lemmas.Slice.Eq.{bytes_eq-Decides}
 use Rattle.ot_op.specs.declared.comp.Comp.{Comp}
-use Rattle.ot_op.specs.declared.comp.Comp.TheVariants.{Ins, Del, Com}
 use Rattle.ot_op.specs.Apply.{applied, stands}
 use Rattle.ot_op.specs.Compose.{appended}
 use Rattle.ot_op.specs.Operation.{is_void}
@@ -15,7 +13,6 @@ use Rattle.ot_units.specs.Text.{part_at}
 use Rattle.ot_op.specs.declared.limits.TheConstants.{MAX_COMPONENTS, MAX_OPERATION_UNITS}
 use Rattle.journal_entries.specs.declared.message.Msg.{Msg}
 use Rattle.journal_entries.specs.declared.update.Update.{Update}
-use Rattle.journal_entries.specs.declared.act.Act.{Act}
 use Rattle.journal_entries.specs.declared.act.Act.TheVariants.{Joined as JoinedAct, Edited, Sent, Got, Left as LeftAct}
 use Rattle.journal_entries.specs.declared.act.Entry.{Entry}
 use Rattle.journal_rules.specs.declared.state.ClientState.{ClientState}
@@ -27,7 +24,6 @@ use Rattle.journal_rules.specs.Locks.{clock}
 use Rattle.journal_rules.specs.Mail.{mail}
 use Rattle.journal_rules.specs.Legal.{IsAllowed, IsLegal, brief_of, units}
 use Rattle.journal_rules.proofs.Pushing.{client-push}
-use Rattle.journal_rules.proofs.Lists.{some_same}
 use Rattle.journal_laws.proofs.Updates.{text_at_version}
 use Rattle.journal_laws.proofs.World.{joined_alive}
 use Rattle.journal_laws.proofs.Laws.{shows}
@@ -35,9 +31,7 @@ use Rattle.turn_rules.specs.Clients.{is_present}
 use Rattle.share_client.specs.Clients.{Numbered, again_fault, flight_fault, pending_fault, send_fault}
 use Rattle.share_client.specs.declared.edit.Edit.{Edit}
 use Rattle.share_client.specs.declared.edit.Edit.TheVariants.{Insert, Delete, Comment}
-use Rattle.share_client.specs.declared.edit.EditFault.{EditFault}
 use Rattle.share_client.specs.declared.edit.EditFault.TheVariants.{NotJoined, PastEnd, Full}
-use Rattle.share_client.specs.declared.send.SendFault.{SendFault}
 use Rattle.share_client.specs.declared.send.SendFault.TheVariants as send
 use Rattle.share_client.specs.Edits.{IsEdit, edit_comp, edit_end, edit_fault, full_fault, is_joined}
 use Rattle.book.specs.Roomed.{IsClientAfter, IsClientOf}

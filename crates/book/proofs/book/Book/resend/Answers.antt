@@ -1,17 +1,13 @@
-use Rattle.std.proofs.Common.{rules as rules_, ◌≡◌, ◌<◌, ◌+◌, ◌-◌, ◌^◌, ◌∙◌, [], ◌∷◌, ◌++◌, length, refl, sym, ap, subst, arith}
-use Rattle.std.specs.Prelude.{slice_get, Some, None, unwrap_or}
+use Rattle.std.proofs.Common.{rules as rules_, ◌≡◌, ◌+◌, ◌∙◌, [], ◌∷◌, ◌++◌, length, refl, sym, ap, subst, arith}
+use Rattle.std.specs.Prelude.{slice_get, Some, unwrap_or}
 use Rattle.rooms.specs.Rooms.{HaveRoom}
 use Rattle.book.specs.declared.document.Document.{Document}
 use Rattle.book.specs.declared.sender.Sender.{Sender}
 use Rattle.journal_entries.specs.Journals.{entries}
 use Rattle.journal_entries.specs.declared.update.Update.{Update}
 use Rattle.journal_entries.specs.declared.act.Act.TheVariants.{Sent}
-use Rattle.journal_entries.specs.declared.act.Entry.{Entry}
 use Rattle.journal_rules.specs.Client as rules
-use Rattle.journal_rules.specs.Documents.{IsMade}
-use Rattle.journal_rules.specs.Legal.{IsAllowed}
 use Rattle.journal_rules.specs.Locks.{clock}
-use Rattle.share_client.specs.Clients.{Numbered}
 use Rattle.book.specs.Roomed.{IsClientOf}
 use Rattle.book.specs.Shown.{Shown}
 use Rattle.book.specs.Standing.{IsKeptAs, IsQueued, Turns}
