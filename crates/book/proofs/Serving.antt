@@ -164,7 +164,7 @@ free_flight s none = (sendable s none).free
 pub sends_joined : (s : rules.Client) → send_fault s ≡ None → s.state ≡ Joined
 sends_joined s none = (sendable s none).joined
 
-sending_now : (c : ℕ) (s : rules.Client) (now : ℕ) → send_fault s ≡ None → sending c s now ≡ Some (update_from c s now (s.number + 1) s.pending [])
+pub sending_now : (c : ℕ) (s : rules.Client) (now : ℕ) → send_fault s ≡ None → sending c s now ≡ Some (update_from c s now (s.number + 1) s.pending [])
 sending_now c s now none =
     let f = sendable s none in
     ap (rules.sends_by c s now) f.joined ∙ ap (λ o. rules.sends_flight c s now o s.pending) f.free ∙ by s.pending f.some
@@ -189,7 +189,7 @@ resendable s none =
 pub resends_joined : (s : rules.Client) → again_fault s ≡ None → s.state ≡ Joined
 resends_joined s none = (resendable s none).joined
 
-resending_now : (c : ℕ) (s : rules.Client) (now : ℕ) → again_fault s ≡ None → sending c s now ≡ Some (update_from c s now s.number (unwrap_or s.flight []) s.sources)
+pub resending_now : (c : ℕ) (s : rules.Client) (now : ℕ) → again_fault s ≡ None → sending c s now ≡ Some (update_from c s now s.number (unwrap_or s.flight []) s.sources)
 resending_now c s now none =
     let f = resendable s none in
     ap (rules.sends_by c s now) f.joined ∙ by s.flight f.some
