@@ -177,22 +177,3 @@ held_own d token j a last own none = by (last_token d j == token) refl (is_held 
         is_false : (b : Bool) → not b ≡ true → b ≡ false
         is_false true e = absurd (true≢false (sym e))
         is_false false e = refl
-
--- an update that is committed leaves who holds
-module _ (seat d token ticket : ℕ) (outcome : Outcome) (line : Option ℕ) (doc other : ℕ) (j last : List Entry) (is : last ≡ j ++ entry_by seat line (Committed doc other ticket outcome) ∷ []) where
-  same_last : last_acquiring d last ≡ last_acquiring d j
-  same_last = ap (last_acquiring d) is ∙ last_acquiring-push d j (entry_by seat line (Committed doc other ticket outcome))
-
-  same_released : released last ≡ released j
-  same_released = ap released is ∙ released-push j (entry_by seat line (Committed doc other ticket outcome)) ∙ append-nil (released j)
-
-  pub still_stale : staleness d token last ≡ staleness d token j
-  still_stale = ap₂ (λ (o : Option Acquiring) (ts : List ℕ). if token_in o == token then (if is_held_in o ts then None else Some Ended) else Some (Other (token_in o))) same_last same_released
-
-  pub still_holds : (by : ℕ) → Holds by d token j → Holds by d token last
-  still_holds by h = record {
-    acquiring = h.acquiring;
-    held = record { last = same_last ∙ h.held.last; standing = ap (is_in h.acquiring.token) same_released ∙ h.held.standing };
-    token_is = h.token_is;
-    seat_is = h.seat_is;
-  }
