@@ -1,36 +1,30 @@
 -- Why taking up an update is refused, and what is prepared of one that was taken up.
-use Rattle.std.proofs.Common.{◌≡◌, ◌⊎◌, ℕ, zero, suc, ◌+◌, ◌≤◌, ◌<◌, List, [], ◌∷◌, ◌++◌, length, Bool, true, false, true≢false, not, refl, sym, ap, ◌∙◌, subst, inl, inr, arith, eqb, eq-eqb, append-nil, length-append, All}
-use Rattle.std.specs.Prelude.{Option, Some, None, ◌==◌, nat_lt, ◌&&◌, map, option_map, if◌then◌else◌}
-use Rattle.std.proofs.lemmas.Bool.{lt-ltb, ltb-true}
-use Rattle.expiring_lock.specs.declared.lock.TheConstants.{LOCK_LIFE}
+use Rattle.std.proofs.Common.{◌≡◌, ℕ, ◌≤◌, List, [], ◌∷◌, ◌++◌, length, Bool, true, false, true≢false, not, refl, sym, ap, ◌∙◌, subst, arith, append-nil, length-append}
+use Rattle.std.specs.Prelude.{Option, Some, None, ◌==◌, nat_lt, ◌&&◌, option_map, if◌then◌else◌}
+use Rattle.std.proofs.lemmas.Bool.{ltb-true}
 use Rattle.expiring_lock.specs.declared.refusal.Busy.{Busy}
 use Rattle.expiring_lock.specs.declared.refusal.Stale.{Stale}
 use Rattle.expiring_lock.specs.declared.refusal.Stale.TheVariants.{Other, Ended}
 use Rattle.dup_check.specs.declared.snapshot.Snapshot.{Snapshot}
-use Rattle.journal_entries.specs.declared.update.Cause.TheVariants.{Memory as NoMemory}
-use Rattle.journal_entries.specs.declared.act.Act.{Act}
 use Rattle.journal_entries.specs.declared.act.Entry.{Entry}
-use Rattle.journal_entries.specs.declared.why.Why.{Why}
 use Rattle.journal_entries.specs.declared.why.Why.TheVariants.{Empty as NothingWaits, Busy as IsBusy, Stale as IsStale}
 use Rattle.journal_rules.specs.Documents.{IsMade, is_in, makings, waiting}
-use Rattle.journal_rules.specs.Keeping.{cached, cached_by}
-use Rattle.journal_rules.specs.Legal.{IsAllowed, IsLegal}
-use Rattle.journal_rules.specs.Locks.{Acquiring, HeldBy, Holds, acquired_by, acquirings, acquiring_of, clock, is_expired, is_held, is_held_in, last_acquiring, last_token, next_token, released, released_by, token_in, used, used_by}
+use Rattle.journal_rules.specs.Keeping.{cached}
+use Rattle.journal_rules.specs.Locks.{Acquiring, acquirings, acquiring_of, is_expired, is_held, is_held_in, last_acquiring, last_token, released, token_in, used_by}
 use Rattle.journal_rules.specs.Whys.{IsBusyWith, IsWhy}
-use Rattle.journal_rules.proofs.Pushing.{acquirings-push, cached-push, last_acquiring-push, released-push, used-push}
+use Rattle.journal_rules.proofs.Pushing.{acquirings-push, cached-push}
 use Rattle.journal_rules.proofs.Lists.{some_same}
-use Rattle.turn_rules.specs.Draining.{Caches, HeldUp, StopsAt, TakesUp, stop_by}
+use Rattle.turn_rules.specs.Draining.{HeldUp, StopsAt, stop_by}
 use Rattle.turn_rules.specs.Locking.{acquired, busy, busy_by, staleness}
 use Rattle.turn_rules.specs.Turns.{entry_by}
 use Rattle.run_rules.specs.Lines.{not_held_by, not_holdable}
-use Rattle.book.specs.Calls.{MayRefuse, acquire_refused, refused_where, told}
+use Rattle.book.specs.Calls.{acquire_refused, refused_where}
 use Rattle.book.specs.Looking.{IsDecided, IsLookAt}
 use Rattle.book.specs.declared.faults.Prepared.{Prepared}
 use Rattle.dispatcher.proofs.Taking.{free_and_waits, last_taken, taking, token_taken}
 use Rattle.session_runner.specs.Holding.{Stands}
 use Rattle.journal_rules.proofs.Fencing.{made_stays}
 use Rattle.std.proofs.lemmas.List.Elements.{All-nil}
-use Rattle.book.specs.declared.faults.AcquireFault.{AcquireFault}
 use Rattle.book.specs.declared.faults.AcquireFault.TheVariants as acquire
 
 -- ---- why it is refused
