@@ -11,7 +11,7 @@ use Rattle.journal_entries.specs.declared.update.Update.{Update}
 use Rattle.journal_entries.specs.declared.act.Act.{Act}
 use Rattle.journal_entries.specs.declared.act.Act.TheVariants.{Made, Ticked, Joined as JoinedAct, Edited, Sent, Malformed, Got, Left as LeftAct, Declined, Closed}
 use Rattle.journal_entries.specs.declared.act.Entry.{Entry}
-use Rattle.journal_rules.specs.Documents.{Making, is_named, making_of, makings, number_in, number_of, is_in, waiting, update_of}
+use Rattle.journal_rules.specs.Documents.{Making, is_named, making_of, makings, number_in, number_of, is_in, waiting}
 use Rattle.journal_rules.specs.Locks.{acquiring_of, acquirings, clock, ticked}
 use Rattle.journal_rules.specs.Legal.{IsAllowed, clock_end, closed, closed_by}
 use Rattle.journal_rules.proofs.Pushing.{acquirings-push, acquirings-none, makings-push, makings-none, clock-push, clock-none, closed-push, closed-none}
@@ -19,7 +19,6 @@ use Rattle.journal_laws.proofs.Unmade.{unmade_waits}
 use Rattle.book.specs.declared.document.Document.{Document}
 use Rattle.book.specs.Standing.{AreDocuments, IsKeptAs, IsNew, IsQueued, Turns, one_for, owed_for}
 use Rattle.book.specs.Shown.{IsBook, names_in, driver_count, unclosed}
-use Rattle.book.proofs.Lists.{same_item}
 use Rattle.book.proofs.Owed.{owed_set, owed_push, closing, open_counts, none_closed}
 use Rattle.book.proofs.Keeping.{Passes, kept_quiet, kept_set, kept_made, kept_none, here_sent}
 

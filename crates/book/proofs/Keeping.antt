@@ -9,16 +9,15 @@ use Rattle.journal_entries.specs.declared.update.Outcome.{Outcome}
 use Rattle.journal_entries.specs.declared.act.Act.{Act}
 use Rattle.journal_entries.specs.declared.act.Act.TheVariants.{Made, Ticked, Joined as JoinedAct, Edited, Sent, Malformed, Got, Left as LeftAct, Acquired, Committed, Released, Declined, Closed}
 use Rattle.journal_entries.specs.declared.act.Entry.{Entry}
-use Rattle.journal_rules.specs.Documents.{IsMade, Making, making_of, makings, item_of, items_by, applied_list, sends, ticket_of, waiting, update_of, update_at}
+use Rattle.journal_rules.specs.Documents.{IsMade, Making, making_of, makings, item_of, items_by, applied_list, sends, ticket_of, waiting, update_at}
 use Rattle.journal_rules.specs.Keeping.{cached_by, cached}
 use Rattle.journal_rules.specs.Locks.{Acquiring, acquired_by, last_acquiring, next_token, released_by, released}
-use Rattle.journal_rules.specs.Legal.{IsAllowed, IsLegal, IsRaw}
+use Rattle.journal_rules.specs.Legal.{IsAllowed, IsLegal}
 use Rattle.journal_rules.proofs.Pushing.{makings-push, makings-none, applied_list-push, cached-push}
 use Rattle.journal_rules.proofs.Legality.{seam, last_or, legal_push}
 use Rattle.journal_rules.proofs.Fencing.{acquired_made}
 use Rattle.journal_laws.proofs.Unmade.{unmade_waits, unmade_applied}
-use Rattle.journal_laws.proofs.Updates.{update_new}
-use Rattle.journal_rules.proofs.Waits.{one_if, committed_below, update_within, waiting-more, waiting-committed, waiting-committed_other}
+use Rattle.journal_rules.proofs.Waits.{one_if, committed_below, waiting-more, waiting-committed, waiting-committed_other}
 use Rattle.book.specs.declared.document.Document.{Document}
 use Rattle.book.specs.Deciding.{Becomes}
 use Rattle.book.specs.Standing.{AreDocuments, IsDocument, IsNew, IsQueued, IsKeptAs, IsLocked, IsFreed, Turns, lock_in, lock_of}

@@ -14,7 +14,7 @@ use Rattle.journal_entries.specs.declared.update.Outcome.{Outcome}
 use Rattle.journal_entries.specs.declared.update.Outcome.TheVariants.{Refused}
 use Rattle.journal_entries.specs.declared.act.Act.TheVariants.{Acquired, Committed, Released}
 use Rattle.journal_entries.specs.declared.act.Entry.{Entry}
-use Rattle.journal_rules.specs.Documents.{IsMade, making_of, makings, is_in, waiting, update_of, update_at}
+use Rattle.journal_rules.specs.Documents.{IsMade, making_of, makings, is_in, waiting, update_at}
 use Rattle.journal_rules.specs.Locks.{Acquiring, Holds, acquiring_of, acquirings, clock, ticked, is_held_in, is_expired_in, last_acquiring, next_token, released, token_in}
 use Rattle.journal_rules.specs.Legal.{IsAllowed, IsAcquiring, closed, closed_by}
 use Rattle.turn_rules.specs.Locking.{busy, busy_by, staleness}

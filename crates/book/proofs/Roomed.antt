@@ -1,17 +1,17 @@
 -- The clients in the rooms of a book after one entry more.
-use Rattle.std.proofs.Common.{◌≡◌, ◌≢◌, ◌⊎◌, inl, inr, ℕ, ◌+◌, ◌-◌, ◌≤◌, List, [], ◌∷◌, ◌++◌, length, drop, Bool, true, false, ◌&&◌, refl, sym, ap, ap₂, ◌∙◌, subst, arith, eqb, ne_eqb, length-append}
+use Rattle.std.proofs.Common.{◌≡◌, ◌≢◌, ◌⊎◌, inl, inr, ℕ, ◌+◌, ◌≤◌, List, [], ◌∷◌, ◌++◌, length, drop, Bool, true, false, ◌&&◌, refl, sym, ap, ap₂, ◌∙◌, subst, arith, eqb, length-append}
 use Rattle.std.specs.Prelude.{slice_get, Option, Some, None, option_map, if◌then◌else◌}
 use Rattle.std.proofs.lemmas.Bool.Decides.{eqb_tells}
-use Rattle.rooms.specs.Rooms.{Membership, Roomed, AreRoomier, AreTold, HaveRoom, first_posted, IsRoomier, IsTold, Joins, Moves, Pops, member, posted, posted_in, without_first as rest_of}
+use Rattle.rooms.specs.Rooms.{Membership, Roomed, AreRoomier, AreTold, HaveRoom, first_posted, Joins, Moves, Pops, member, posted, posted_in, without_first as rest_of}
 use Rattle.journal_entries.specs.declared.update.Update.{Update}
 use Rattle.journal_entries.specs.declared.update.Outcome.{Outcome}
 use Rattle.journal_entries.specs.declared.update.Outcome.TheVariants.{Applied, Dup, Refused}
 use Rattle.journal_entries.specs.declared.message.Brief.{Brief}
 use Rattle.journal_entries.specs.declared.act.Act.{Act}
-use Rattle.journal_entries.specs.declared.act.Act.TheVariants.{Joined as JoinedAct, Sent, Got, Committed}
+use Rattle.journal_entries.specs.declared.act.Act.TheVariants.{Joined as JoinedAct, Sent, Got, Left as LeftAct, Committed}
 use Rattle.journal_entries.specs.declared.act.Entry.{Entry}
 use Rattle.journal_rules.specs.Client.{is_of}
-use Rattle.journal_rules.specs.Documents.{IsMade, sends, ticket_of, update_at, waiting}
+use Rattle.journal_rules.specs.Documents.{sends, ticket_of, update_at, waiting}
 use Rattle.journal_rules.specs.Legal.{IsLegal}
 use Rattle.journal_rules.proofs.Waits.{committed_below, one_if, waiting-committed, waiting-committed_other, waiting-more}
 use Rattle.mail_places.specs.Places.{IsMailIn, LeavesPlaces, Placed, placed, placed_by, placed_in, told_at, placed_of, placed_own, with_place, without_first}
@@ -228,6 +228,27 @@ roomed_joined rooms rooms' j e client doc v source room user track since legal i
         (record { doc_is = refl; source_is = refl; outbox_is = refl; room = let l = less doc in let s = joins.1 in omega (arith, l, s, enough) })
     by (inr t) =
         there_by (member c rooms) (member c rooms') (placed c j) (placed c k) k (joins.2.others c (λ h. t.1 (sym h))) (next ∙ ap (λ b. if b then Some (record { doc = doc; source = source; places = [] }) else placed c j) t.0)
+        (there_kept (member c rooms) (placed c j) j k less (were c))
+
+-- ---- a client leaves
+pub roomed_left : (rooms rooms' : Roomed) (j : List Entry) (e : Entry) (client : ℕ) → IsLegal j → e.act ≡ LeftAct client → Moves client None rooms rooms' → AreRoomed rooms j → AreRoomed rooms' (j ++ e ∷ [])
+roomed_left rooms rooms' j e client legal is moves were c = by (eqb_tells client c)
+  where
+    k : List Entry
+    k = j ++ e ∷ []
+
+    less : (d : ℕ) → length (waiting d k) ≤ length (waiting d j)
+    less d = let w = ap length (waits_none d j e legal (ap ticket_of is) (ap (sends d) is)) in omega (arith, w)
+
+    next : placed c k ≡ (if eqb client c then None else placed c j)
+    next = placed-push c j e ∙ ap (λ a. placed_by c j a (placed c j)) is
+
+    by : ((eqb client c ≡ true) × (client ≡ c)) ⊎ ((eqb client c ≡ false) × (client ≢ c)) → IsThere (member c rooms') (placed c k) k
+    by (inl t) =
+        there_by None (member c rooms') None (placed c k) k
+        (ap (λ n. member n rooms') (sym t.1) ∙ moves.changed) (next ∙ ap (λ b. if b then None else placed c j) t.0) tt
+    by (inr t) =
+        there_by (member c rooms) (member c rooms') (placed c j) (placed c k) k (moves.others c (λ h. t.1 (sym h))) (next ∙ ap (λ b. if b then None else placed c j) t.0)
         (there_kept (member c rooms) (placed c j) j k less (were c))
 
 -- ---- a client gets its first message

@@ -1,12 +1,8 @@
 -- There is room to move an update past what a window holds.
-use Rattle.std.proofs.Common.{ℕ, ◌+◌, ◌*◌, ◌^◌, ◌≤◌, ◌<◌, List, [], ◌∷◌, length, arith, All}
-use Rattle.std.proofs.lemmas.List.Sums.{sum_by-cons}
+use Rattle.std.proofs.Common.{ℕ, ◌*◌, ◌≤◌, List, [], ◌∷◌, length, arith, All}
 use Rattle.std.proofs.lemmas.List.Elements.{All-nil, All-cons, All-head, All-tail}
 use Rattle.ot_op.specs.declared.comp.Comp.{Comp}
-use Rattle.ot_op.specs.declared.comp.Comp.TheVariants.{Ins, Del, Com}
-use Rattle.ot_op.specs.Operation.{place}
 use Rattle.ot_transform.specs.Room.{new_units, new_units_of_all, Room, FitsAll}
-use Rattle.ot_transform.specs.Size.{edit_units, edit_units_in, Within}
 use Rattle.dup_check.specs.declared.past.Past.{Past}
 use Rattle.dup_check.specs.Snapshot.{IsSmall, operations}
 use Rattle.journal_sizes.specs.Sizes.{IsSized}

@@ -1,12 +1,10 @@
 -- What a call for a client leaves: its entry is allowed, and the client that was handed in is the journal's again.
-use Rattle.std.proofs.Common.{◌≡◌, ◌≢◌, ℕ, zero, suc, ◌+◌, ◌≤◌, ◌<◌, List, [], ◌∷◌, ◌++◌, length, take, drop, Bool, true, false, not, ◌||◌, refl, sym, ap, ◌∙◌, subst, arith, eqb, eq-eqb, ne_eqb}
-use Rattle.std.specs.Prelude.{Option, Some, None, is_some, nat_lt, nat_le, unwrap_or, if◌then◌else◌}
-use Rattle.std.specs.Str.{bytes_eq}
+use Rattle.std.proofs.Common.{◌≡◌, ◌⊎◌, inl, inr, ℕ, ◌+◌, ◌≤◌, List, [], ◌∷◌, ◌++◌, length, take, drop, Bool, true, false, not, ◌||◌, refl, sym, ap, ◌∙◌, subst, arith, eqb, eq-eqb, ne_eqb}
+use Rattle.std.specs.Prelude.{Option, Some, None, is_some, nat_lt, unwrap_or, if◌then◌else◌}
 use Rattle.std.proofs.lemmas.Bool.{ltb-false, le-leb, or_parts}
 use Rattle.std.proofs.lemmas.List.{length-take, length-drop}
 use Rattle.std.proofs.lemmas.Slice.Eq.{bytes_eq-Decides}
 use Rattle.ot_op.specs.declared.comp.Comp.{Comp}
-use Rattle.ot_op.specs.declared.comp.Comp.TheVariants.{Ins, Del, Com}
 use Rattle.ot_op.specs.Apply.{applied, stands}
 use Rattle.ot_op.specs.Compose.{appended}
 use Rattle.ot_op.specs.Operation.{is_void}
@@ -15,8 +13,7 @@ use Rattle.ot_units.specs.Text.{part_at}
 use Rattle.ot_op.specs.declared.limits.TheConstants.{MAX_COMPONENTS, MAX_OPERATION_UNITS}
 use Rattle.journal_entries.specs.declared.message.Msg.{Msg}
 use Rattle.journal_entries.specs.declared.update.Update.{Update}
-use Rattle.journal_entries.specs.declared.act.Act.{Act}
-use Rattle.journal_entries.specs.declared.act.Act.TheVariants.{Joined as JoinedAct, Edited, Sent, Got}
+use Rattle.journal_entries.specs.declared.act.Act.TheVariants.{Joined as JoinedAct, Edited, Sent, Got, Left as LeftAct}
 use Rattle.journal_entries.specs.declared.act.Entry.{Entry}
 use Rattle.journal_rules.specs.declared.state.ClientState.{ClientState}
 use Rattle.journal_rules.specs.declared.state.ClientState.TheVariants.{Away, Joined, Left, Stale}
@@ -27,16 +24,14 @@ use Rattle.journal_rules.specs.Locks.{clock}
 use Rattle.journal_rules.specs.Mail.{mail}
 use Rattle.journal_rules.specs.Legal.{IsAllowed, IsLegal, brief_of, units}
 use Rattle.journal_rules.proofs.Pushing.{client-push}
-use Rattle.journal_rules.proofs.Lists.{some_same}
 use Rattle.journal_laws.proofs.Updates.{text_at_version}
 use Rattle.journal_laws.proofs.World.{joined_alive}
 use Rattle.journal_laws.proofs.Laws.{shows}
-use Rattle.share_client.specs.Clients.{Numbered, pending_fault, send_fault, unless_away}
+use Rattle.turn_rules.specs.Clients.{is_present}
+use Rattle.share_client.specs.Clients.{Numbered, again_fault, flight_fault, pending_fault, send_fault}
 use Rattle.share_client.specs.declared.edit.Edit.{Edit}
 use Rattle.share_client.specs.declared.edit.Edit.TheVariants.{Insert, Delete, Comment}
-use Rattle.share_client.specs.declared.edit.EditFault.{EditFault}
 use Rattle.share_client.specs.declared.edit.EditFault.TheVariants.{NotJoined, PastEnd, Full}
-use Rattle.share_client.specs.declared.send.SendFault.{SendFault}
 use Rattle.share_client.specs.declared.send.SendFault.TheVariants as send
 use Rattle.share_client.specs.Edits.{IsEdit, edit_comp, edit_end, edit_fault, full_fault}
 use Rattle.turn_rules.specs.Clients.{is_joined}
@@ -61,11 +56,11 @@ got_client j k e was now m rest more is first own now_is =
     client_after j k e was now (rules.delivered was.now m) more
     (ap (λ a. client_by was.client j a was.now) is ∙ if_own was.client (rules.got_by was.now (mail was.client j)) was.now ∙ ap (rules.got_by was.now) first) own now_is
 
-pub sent_client : (j k : List Entry) (e : Entry) (was now : Numbered) (u : Update) → k ≡ j ++ e ∷ [] → e.act ≡ Sent u → u.client ≡ Some was.client → was.now.flight ≡ None → IsClientOf j was → now ≡ record was { now = rules.sent_by was.now None } → IsClientAfter k was now
-sent_client j k e was now u more is whose free own now_is =
-    client_after j k e was now (rules.sent_by was.now None) more
+pub sent_client : (j k : List Entry) (e : Entry) (was now : Numbered) (u : Update) → k ≡ j ++ e ∷ [] → e.act ≡ Sent u → u.client ≡ Some was.client → IsClientOf j was → now ≡ record was { now = rules.sent_by was.now was.now.flight } → IsClientAfter k was now
+sent_client j k e was now u more is whose own now_is =
+    client_after j k e was now (rules.sent_by was.now was.now.flight) more
     (ap (λ a. client_by was.client j a was.now) is ∙ ap (λ o. if rules.is_of was.client o then rules.sent_by was.now was.now.flight else was.now) whose
-    ∙ if_own was.client (rules.sent_by was.now was.now.flight) was.now ∙ ap (rules.sent_by was.now) free) own now_is
+    ∙ if_own was.client (rules.sent_by was.now was.now.flight) was.now) own now_is
 
 pub joined_client : (j k : List Entry) (e : Entry) (was now : Numbered) (doc : ℕ) (user : List ℕ) (track : Bool) (source v : ℕ) (here : List ℕ) → k ≡ j ++ e ∷ [] → e.act ≡ JoinedAct was.client doc user track None source v → v ≡ version doc j → text doc j ≡ Some here
     → IsClientOf j was → now ≡ record was { now = rules.joined_anew was.now doc user track source v here } → IsClientAfter k was now
@@ -73,6 +68,9 @@ joined_client j k e was now doc user track source v here more is at text_is own 
     client_after j k e was now (rules.joined_anew was.now doc user track source v here) more
     (ap (λ a. client_by was.client j a was.now) is ∙ if_own was.client (rules.joined_by was.now j doc user track None source v) was.now
     ∙ ap (λ o. rules.joined_anew was.now doc user track source v (unwrap_or o [])) (ap (λ n. text_at doc n j) at ∙ text_at_version doc j ∙ text_is)) own now_is
+
+pub left_client : (j k : List Entry) (e : Entry) (was now : Numbered) → k ≡ j ++ e ∷ [] → e.act ≡ LeftAct was.client → IsClientOf j was → now ≡ record was { now = rules.left_by was.now } → IsClientAfter k was now
+left_client j k e was now more is own now_is = client_after j k e was now (rules.left_by was.now) more (ap (λ a. client_by was.client j a was.now) is ∙ if_own was.client (rules.left_by was.now) was.now) own now_is
 
 -- it is the journal's client still, where nothing was written
 pub same_client : (j k : List Entry) (was now : Numbered) → k ≡ j → IsClientOf j was → now ≡ was → IsClientAfter k was now
@@ -179,15 +177,48 @@ sending_now c s now none =
 pub may_send : (j : List Entry) (seat : ℕ) (was : Numbered) → IsClientOf j was → send_fault was.now ≡ None → IsAllowed j seat (Sent (update_from was.client was.now (clock j) (was.now.number + 1) was.now.pending []))
 may_send j seat was own none = ap (λ (s : rules.Client). sending was.client s (clock j)) (sym own) ∙ sending_now was.client was.now (clock j) none
 
-pub own_doc : (j : List Entry) (was : Numbered) → IsLegal j → IsClientOf j was → send_fault was.now ≡ None → IsMade was.now.doc j
-own_doc j was legal own none =
-    let alive = ap (λ (s : rules.Client). rules.is_alive s.state) (sym own) ∙ joined_alive was.now.state (sends_joined was.now none) in
-    subst (λ (s : rules.Client). IsMade s.doc j) (sym own) (shows was.client j legal alive).made
+-- and sendings again
+record Resendable (s : rules.Client) : Type 0 where
+  joined : s.state ≡ Joined
+  some : flight_fault s.flight ≡ None
 
--- what is asked of a client that is joined
-pub unless_joined : {X : Type 0} (st : ClientState) (x y : X) → st ≡ Joined → Some y ≡ unless_away st x → x ≡ y
-unless_joined st x y joined is = sym (some_same y x (is ∙ ap (λ t. unless_away t x) joined))
+resendable : (s : rules.Client) → again_fault s ≡ None → Resendable s
+resendable s none =
+    let a = first_none (not (is_joined s.state)) send.NotJoined (flight_fault s.flight) none in
+    record { joined = joined_if s.state a.0; some = a.1 }
+
+pub resends_joined : (s : rules.Client) → again_fault s ≡ None → s.state ≡ Joined
+resends_joined s none = (resendable s none).joined
+
+pub resending_now : (c : ℕ) (s : rules.Client) (now : ℕ) → again_fault s ≡ None → sending c s now ≡ Some (update_from c s now s.number (unwrap_or s.flight []) s.sources)
+resending_now c s now none =
+    let f = resendable s none in
+    ap (rules.sends_by c s now) f.joined ∙ by s.flight f.some
+  where
+    by : (f : Option (List Comp)) → flight_fault f ≡ None → rules.sends_flight c s now f s.pending ≡ Some (update_from c s now s.number (unwrap_or f []) s.sources)
+    by None e = absurd (cc)
+    by (Some []) e = absurd (cc)
+    by (Some (x ∷ xs)) e = refl
+
+pub may_resend : (j : List Entry) (seat : ℕ) (was : Numbered) → IsClientOf j was → again_fault was.now ≡ None → IsAllowed j seat (Sent (update_from was.client was.now (clock j) was.now.number (unwrap_or was.now.flight []) was.now.sources))
+may_resend j seat was own none = ap (λ (s : rules.Client). sending was.client s (clock j)) (sym own) ∙ resending_now was.client was.now (clock j) none
+
+-- the document of a client that is joined was made
+pub own_doc : (j : List Entry) (was : Numbered) → IsLegal j → IsClientOf j was → was.now.state ≡ Joined → IsMade was.now.doc j
+own_doc j was legal own joined =
+    let alive = ap (λ (s : rules.Client). rules.is_alive s.state) (sym own) ∙ joined_alive was.now.state joined in
+    subst (λ (s : rules.Client). IsMade s.doc j) (sym own) (shows was.client j legal alive).made
 
 -- ---- messages
 pub may_get : (j : List Entry) (seat c : ℕ) (m : Msg) (rest : List Msg) → mail c j ≡ m ∷ rest → IsAllowed j seat (Got c (brief_of m))
 may_get j seat c m rest first = record { message = m; rest = rest; first = first; brief_is = refl }
+
+-- ---- leaving
+pub may_leave : (j : List Entry) (seat : ℕ) (was : Numbered) → IsClientOf j was → is_present was.now.state ≡ true → IsAllowed j seat (LeftAct was.client)
+may_leave j seat was own present = subst (λ (s : rules.Client). (s.state ≡ Joined) ⊎ (s.state ≡ Stale)) own (by was.now.state present)
+  where
+    by : (st : ClientState) → is_present st ≡ true → (st ≡ Joined) ⊎ (st ≡ Stale)
+    by Joined e = inl refl
+    by Stale e = inr refl
+    by Away e = absurd (cc)
+    by Left e = absurd (cc)

@@ -1,5 +1,5 @@
 -- When the calls of a book refuse, and what they make.
-use Rattle.std.specs.Prelude.{◌≡◌, ℕ, ◌+◌, ◌<◌, ◌≤◌, ◌⊎◌, ◌==◌, false, nat_lt, List, [], ◌∷◌, length, Option, Some, None, Result, Ok, Err, option_map, if◌then◌else◌}
+use Rattle.std.specs.Prelude.{◌≡◌, ℕ, ◌+◌, ◌<◌, ◌≤◌, ◌⊎◌, ◌==◌, true, false, nat_lt, List, [], ◌∷◌, length, Option, Some, None, Result, Ok, Err, option_map, if◌then◌else◌}
 use Rattle.ot_op.specs.declared.comp.Comp.{Comp}
 use Rattle.ot_op.specs.declared.fault.FormFault.{FormFault}
 use Rattle.expiring_lock.specs.Locks.{LockState}
@@ -16,6 +16,8 @@ use Rattle.journal_rules.specs.Documents.{IsMade, is_in, makings, waiting}
 use Rattle.journal_rules.specs.Keeping.{FailedUnder, loading}
 use Rattle.journal_rules.specs.Locks.{Holds, clock, used}
 use Rattle.journal_rules.specs.Legal.{clock_end}
+use Rattle.journal_rules.specs.declared.state.ClientState.{ClientState}
+use Rattle.turn_rules.specs.Clients.{is_present}
 use Rattle.turn_rules.specs.Locking.{busy, staleness}
 use Rattle.book.specs.declared.faults.MakeFault.{MakeFault}
 use Rattle.book.specs.declared.faults.MakeFault.TheVariants as make
@@ -25,6 +27,8 @@ use Rattle.book.specs.declared.faults.RawFault.{RawFault}
 use Rattle.book.specs.declared.faults.RawFault.TheVariants as raw
 use Rattle.book.specs.declared.faults.JoinFault.{JoinFault}
 use Rattle.book.specs.declared.faults.JoinFault.TheVariants as join
+use Rattle.book.specs.declared.faults.LeaveFault.{LeaveFault}
+use Rattle.book.specs.declared.faults.LeaveFault.TheVariants as leave
 use Rattle.book.specs.declared.faults.AcquireFault.{AcquireFault}
 use Rattle.book.specs.declared.faults.AcquireFault.TheVariants as acquire
 use Rattle.book.specs.declared.faults.CommitFault.{CommitFault}
@@ -68,6 +72,11 @@ ticket_of_raw (Err fault) at = None
 abbrev pub MayNotJoin : ℕ → List Entry → JoinFault → Type 0
 MayNotJoin doc journal join.NoDoc = length (makings journal) ≤ doc
 MayNotJoin doc journal join.Memory = IsMade doc journal
+
+-- ---- leave
+abbrev pub MayNotLeave : ClientState → LeaveFault → Type 0
+MayNotLeave state leave.NotJoined = is_present state ≡ false
+MayNotLeave state leave.Memory = is_present state ≡ true
 
 -- ---- acquire
 abbrev pub refused_of : Option Busy → Option AcquireFault

@@ -8,7 +8,7 @@ use Rattle.dup_check.specs.Snapshot.{numbered}
 use Rattle.journal_entries.specs.declared.update.Update.{Update}
 use Rattle.journal_entries.specs.declared.update.Outcome.{Outcome}
 use Rattle.journal_entries.specs.declared.act.Entry.{Entry}
-use Rattle.journal_rules.specs.Documents.{Item, makings, base, text, version, applied_list, waiting, update_at, is_in}
+use Rattle.journal_rules.specs.Documents.{Item, makings, base, text, version, applied_list, waiting, is_in}
 use Rattle.journal_rules.specs.Tracking.{cells}
 use Rattle.journal_rules.specs.Deciding.{decided_of, passed_of, longest}
 use Rattle.journal_rules.specs.Keeping.{cached}

@@ -1,23 +1,25 @@
 //! The calls of a book for clients.
 
-ghost use Rattle.std.specs.Prelude.{◌≡◌, ◌<◌, ◌^◌, ◌+◌, ◌∷◌, [], length, slice_get, IfOk, IfErr, IfSome, OnOk, OnErr, None, Some};
-ghost use Rattle.journal_entries.specs.declared.act.Act.TheVariants.{Joined, Edited, Sent, Got};
+ghost use Rattle.std.specs.Prelude.{◌≡◌, ◌<◌, ◌^◌, ◌+◌, ◌∷◌, [], length, slice_get, true, unwrap_or, IfOk, IfErr, IfSome, OnOk, OnErr, None, Some};
+ghost use Rattle.journal_entries.specs.declared.act.Act.TheVariants.{Joined, Edited, Sent, Got, Left};
 ghost use Rattle.journal_rules.specs.Documents.{IsMade, version};
 ghost use Rattle.journal_rules.specs.Legal.{brief_of, source_at};
 ghost use Rattle.journal_rules.specs.Locks.{clock};
 ghost use Rattle.journal_rules.specs.Mail.{mail};
 ghost use Rattle.journal_rules.specs.Client.{update_from};
-ghost use Rattle.share_client.specs.Clients.{send_fault, told_send};
+ghost use Rattle.turn_rules.specs.Clients.{is_present};
+ghost use Rattle.share_client.specs.Clients.{again_fault, send_fault, told_send};
 ghost use Rattle.share_client.specs.Edits.{IsEdit, IsRefusal, edit_comp, edit_fault, edit_length};
 ghost use Rattle.book.specs.Shown.{adds};
 ghost use Rattle.book.specs.Roomed.{IsClientAfter, IsClientOf};
-ghost use Rattle.book.specs.Calls.{MayNotJoin};
+ghost use Rattle.book.specs.Calls.{MayNotJoin, MayNotLeave};
 
 use crate::book::{Book, entry_of};
-use crate::faults::{By, JoinFault};
+use crate::faults::{By, JoinFault, LeaveFault};
 use crate::mail::reserve_waiting;
 use crate::room::make_room;
-use journal_entries::{Act, Brief, FIRST_SOURCE, Msg, Update};
+use crate::sender::Sender;
+use journal_entries::{Act, Brief, FIRST_SOURCE, Msg};
 use journal_rules::ClientState;
 use mail_places::message_at;
 use ot_units::Name;
@@ -77,12 +79,7 @@ impl Book {
     }
 
     /// A client edits its text. It's refused as [`ShareClient::edit`] refuses it.
-    pub fn edit(
-        &mut self,
-        by: By,
-        client: &mut ShareClient,
-        edit: &Edit,
-    ) -> Result<(), EditFault>
+    pub fn edit(&mut self, by: By, client: &mut ShareClient, edit: &Edit) -> Result<(), EditFault>
         requires client { IsClientOf self.old.journal client.old }
         requires edit { IsEdit edit.now }
         ensures ok { OnOk result ((edit_fault client.old.now edit.now ≡ None) × (self.new ≡ adds self.old by.seat by.line (Edited client.old.client (edit_comp client.old.now.text edit.now) ∷ []))) }
@@ -119,36 +116,51 @@ impl Book {
         if let Some(fault) = refused_send(client) {
             return Err(fault);
         }
-        let (Some(doc), Some(user)) = (client.doc(), client.user()) else {
-            unreachable!()
-        };
-        let (Some(track), Some(source)) = (client.track(), client.source()) else {
-            unreachable!()
-        };
-        let Ok(user) = user.copy(self.alloc) else {
+        let Ok(sender) = Sender::new(self.alloc, client) else {
             return Err(SendFault::Memory);
         };
         let Ok(sum) = make_room(&mut self.journal, self.owed, 2) else {
             return Err(SendFault::Memory);
         };
-        let Ok(()) = reserve_waiting(&mut self.documents, &mut self.rooms, doc) else {
+        let Ok(()) = reserve_waiting(&mut self.documents, &mut self.rooms, sender.doc) else {
             return Err(SendFault::Memory);
         };
         let ticket = self.journal.len();
         let sent = client.take_send()?;
-        let update = Update {
-            doc,
-            client: Some(client.client()),
-            number: sent.number,
-            source,
-            dup: sent.dup,
-            user,
-            track,
-            ms: self.moment,
-            v: sent.v,
-            op: sent.op,
+        self.documents.queue(sender.doc as usize, ticket);
+        let update = sender.update(sent, self.moment);
+        self.journal.push(entry_of(by, Act::Sent { update }));
+        self.owed = sum - 1;
+        Ok(ticket)
+    }
+
+    /// A client sends what is in flight again, under the same number, and the ticket is answered.
+    /// It's refused as [`ShareClient::send_again`] refuses it.
+    pub fn resend(&mut self, by: By, client: &mut ShareClient) -> Result<u64, SendFault>
+        requires { IsClientOf self.old.journal client.old }
+        ensures ticket { IfOk result (λ t. t ≡ length self.old.journal) }
+        ensures ok { OnOk result ((again_fault client.old.now ≡ None)
+            × (self.new ≡ adds self.old by.seat by.line (Sent (update_from client.old.client client.old.now (clock self.old.journal) client.old.now.number (unwrap_or client.old.now.flight []) client.old.now.sources) ∷ []))) }
+        ensures client { IsClientAfter self.new.journal client.old client.new }
+        ensures refused { IfErr result (λ f. told_send f ≡ again_fault client.old.now) }
+        ensures kept { OnErr result ((self.new ≡ self.old) × (client.new ≡ client.old)) }
+    {
+        if let Some(fault) = refused_resend(client) {
+            return Err(fault);
+        }
+        let Ok(sender) = Sender::new(self.alloc, client) else {
+            return Err(SendFault::Memory);
         };
-        self.documents.queue(doc as usize, ticket);
+        let Ok(sum) = make_room(&mut self.journal, self.owed, 2) else {
+            return Err(SendFault::Memory);
+        };
+        let Ok(()) = reserve_waiting(&mut self.documents, &mut self.rooms, sender.doc) else {
+            return Err(SendFault::Memory);
+        };
+        let ticket = self.journal.len();
+        let sent = client.send_again()?;
+        self.documents.queue(sender.doc as usize, ticket);
+        let update = sender.update(sent, self.moment);
         self.journal.push(entry_of(by, Act::Sent { update }));
         self.owed = sum - 1;
         Ok(ticket)
@@ -156,11 +168,7 @@ impl Book {
 
     /// A client gets the first message of its mail, which is answered, or `None` where its mail is
     /// empty.
-    pub fn receive(
-        &mut self,
-        by: By,
-        client: &mut ShareClient,
-    ) -> Result<Option<Msg>, AllocError>
+    pub fn receive(&mut self, by: By, client: &mut ShareClient) -> Result<Option<Msg>, AllocError>
         requires { IsClientOf self.old.journal client.old }
         ensures first { IfOk result (λ m. m ≡ slice_get (mail client.old.client self.old.journal) 0) }
         ensures got { IfOk result (λ m. IfSome m (λ msg. self.new ≡ adds self.old by.seat by.line (Got client.old.client (brief_of msg) ∷ []))) }
@@ -194,6 +202,39 @@ impl Book {
         ));
         Ok(Some(message))
     }
+
+    /// A client leaves its document and the document's room, where it's told of nothing more. A
+    /// stale client stays stale.
+    pub fn leave(&mut self, by: By, client: &mut ShareClient) -> Result<(), LeaveFault>
+        requires { IsClientOf self.old.journal client.old }
+        ensures ok { OnOk result ((is_present client.old.now.state ≡ true) × (self.new ≡ adds self.old by.seat by.line (Left client.old.client ∷ []))) }
+        ensures client { IsClientAfter self.new.journal client.old client.new }
+        ensures refused { IfErr result (λ f. MayNotLeave client.old.now.state f) }
+        ensures kept { OnErr result ((self.new ≡ self.old) × (client.new ≡ client.old)) }
+    {
+        if !present(client.state()) {
+            return Err(LeaveFault::NotJoined);
+        }
+        let Ok(_sum) = make_room(&mut self.journal, self.owed, 1) else {
+            return Err(LeaveFault::Memory);
+        };
+        let number = client.client();
+        self.rooms.leave(number);
+        client.left();
+        self.journal
+            .push(entry_of(by, Act::Left { client: number }));
+        Ok(())
+    }
+}
+
+// Whether a client is in a room: a stale one is still in its document's.
+fn present(state: ClientState) -> bool
+    ensures { result ≡ is_present state }
+{
+    match state {
+        ClientState::Joined | ClientState::Stale => true,
+        ClientState::Away | ClientState::Left => false,
+    }
 }
 
 // Why a client has nothing to send, or `None` where it has.
@@ -207,6 +248,22 @@ fn refused_send(client: &ShareClient) -> Option<SendFault>
         return Some(SendFault::InFlight);
     }
     if client.pending().comps().is_empty() {
+        return Some(SendFault::Nothing);
+    }
+    None
+}
+
+// Why a client has nothing to send again, or `None` where it has.
+fn refused_resend(client: &ShareClient) -> Option<SendFault>
+    ensures { result ≡ again_fault client.now.now }
+{
+    if client.state() != ClientState::Joined {
+        return Some(SendFault::NotJoined);
+    }
+    let Some(flight) = client.flight() else {
+        return Some(SendFault::Nothing);
+    };
+    if flight.comps().is_empty() {
         return Some(SendFault::Nothing);
     }
     None

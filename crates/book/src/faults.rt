@@ -80,6 +80,14 @@ pub enum JoinFault {
     Memory,
 }
 
+/// Why a client doesn't leave.
+#[derive(Clone, Copy, Debug, PartialEq, Eq)]
+pub enum LeaveFault {
+    /// The client isn't in a document's room: it never joined one, or it left.
+    NotJoined,
+    Memory,
+}
+
 /// Why a document's lock isn't acquired.
 #[derive(Clone, Copy, Debug, PartialEq, Eq)]
 pub enum AcquireFault {

@@ -19,7 +19,7 @@ use Rattle.turn_rules.specs.Locking.{acquired}
 use Rattle.turn_rules.specs.Turns.{Alone, entry_by}
 use Rattle.run_rules.proofs.Whole.{whole}
 use Rattle.session_runner.specs.Apart.{GoesApart, IsApart, is_apart}
-use Rattle.session_runner.specs.Draining.{DrainsMany}
+use Rattle.dispatcher.specs.Draining.{DrainsMany}
 
 -- ---- what an act that is apart leaves
 pub makes_none : (from : ℕ) (a : Act) → is_apart from a ≡ true → making_of a ≡ []

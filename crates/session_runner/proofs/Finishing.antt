@@ -18,7 +18,8 @@ use Rattle.book.specs.declared.faults.Prepared.{Prepared}
 use Rattle.session_runner.specs.declared.driver.Driver.{Driver}
 use Rattle.session_runner.specs.Holding.{AreHeld, IsDriver, Stands, kept, kept_in, preparation_of}
 use Rattle.session_runner.proofs.Apart.{not_this}
-use Rattle.session_runner.proofs.Holding.{given_up, held_own, of_another, one_more, still_holds, still_stale}
+use Rattle.dispatcher.proofs.Holding.{still_holds, still_stale}
+use Rattle.session_runner.proofs.Holding.{given_up, held_own, of_another, one_more}
 use Rattle.session_runner.proofs.Lines.{declined}
 
 module _ (line : Option ℕ) (session : ℕ) (driver : Driver) (p : Prepared) (is : IsDriver driver) (lt : session < length driver.holds.items) (at : slice_get driver.holds.items session ≡ Some (Some p)) where

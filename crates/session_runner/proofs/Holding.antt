@@ -1,28 +1,21 @@
 -- What sessions keep stands behind entries of other lines, and each is finished under its own token.
-use Rattle.std.proofs.Common.{◌≡◌, ◌≢◌, ◌⊎◌, ℕ, zero, suc, ◌+◌, ◌≤◌, ◌<◌, List, [], ◌∷◌, ◌++◌, length, Bool, true, false, true≢false, not, refl, sym, ap, ap₂, ◌∙◌, subst, inl, inr, arith, eqb, eq-eqb, eqb-true, ne_eqb, append_assoc, append-nil, length-append, All}
-use Rattle.std.specs.Prelude.{Option, Some, None, ◌==◌, nat_le, slice_get, slice_set, map, option_and_then, option_map, if◌then◌else◌}
+use Rattle.std.proofs.Common.{◌≡◌, ◌≢◌, ◌⊎◌, ℕ, zero, suc, ◌<◌, List, [], ◌∷◌, ◌++◌, length, Bool, true, false, true≢false, not, refl, sym, ap, ◌∙◌, subst, inl, inr, arith, eq-eqb, eqb-true, append_assoc, length-append}
+use Rattle.std.specs.Prelude.{Option, Some, None, ◌==◌, slice_get, slice_set, option_and_then, if◌then◌else◌}
 use Rattle.std.proofs.lemmas.List.Elements.{All-append, All-nil, All-cons}
-use Rattle.expiring_lock.specs.declared.refusal.Busy.{Busy}
-use Rattle.expiring_lock.specs.declared.refusal.Stale.{Stale}
 use Rattle.expiring_lock.specs.declared.refusal.Stale.TheVariants.{Other, Ended}
-use Rattle.journal_entries.specs.declared.update.Outcome.{Outcome}
 use Rattle.journal_entries.specs.declared.act.Act.{Act}
-use Rattle.journal_entries.specs.declared.act.Act.TheVariants.{Made, Ticked, Acquired, Committed, Released, Unloaded}
+use Rattle.journal_entries.specs.declared.act.Act.TheVariants.{Acquired}
 use Rattle.journal_entries.specs.declared.act.Entry.{Entry}
-use Rattle.journal_rules.specs.Documents.{IsMade, is_in, update_at}
-use Rattle.journal_rules.specs.Keeping.{cached, cached_by}
-use Rattle.journal_rules.specs.Legal.{IsLegal}
-use Rattle.journal_rules.specs.Locks.{Acquiring, HeldBy, Holds, acquired_by, acquirings, acquiring_of, is_held, is_held_in, last_acquiring, last_token, next_token, released, released_by, token_in, used_by}
-use Rattle.journal_rules.proofs.Pushing.{acquirings-push, cached-push, last_acquiring-push, released-push}
+use Rattle.journal_rules.specs.Documents.{is_in}
+use Rattle.journal_rules.specs.Keeping.{cached_by}
+use Rattle.journal_rules.specs.Locks.{Acquiring, Holds, acquired_by, acquirings, acquiring_of, is_held, is_held_in, last_acquiring, last_token, next_token, released, token_in, used_by}
+use Rattle.journal_rules.proofs.Pushing.{acquirings-push, cached-push, last_acquiring-push}
 use Rattle.journal_rules.proofs.Fencing.{made_stays}
-use Rattle.journal_rules.proofs.Lists.{some_same}
 use Rattle.journal_rules.proofs.Waits.{update_stays}
 use Rattle.turn_rules.specs.Locking.{staleness}
-use Rattle.turn_rules.specs.Turns.{entry_by}
-use Rattle.run_rules.specs.Keeping.{Preparation, Preparations, keeping}
+use Rattle.run_rules.specs.Keeping.{keeping}
 use Rattle.book.specs.declared.faults.Prepared.{Prepared}
-use Rattle.book.specs.Looking.{IsOf}
-use Rattle.session_runner.specs.Holding.{AreHeld, Stands, kept, kept_in, preparation_of}
+use Rattle.session_runner.specs.Holding.{AreHeld, Stands, kept, kept_in}
 use Rattle.session_runner.specs.Apart.{GoesApart}
 use Rattle.session_runner.proofs.Apart.{keeps_cached, stays, unused}
 
@@ -177,22 +170,3 @@ held_own d token j a last own none = by (last_token d j == token) refl (is_held 
         is_false : (b : Bool) → not b ≡ true → b ≡ false
         is_false true e = absurd (true≢false (sym e))
         is_false false e = refl
-
--- an update that is committed leaves who holds
-module _ (seat d token ticket : ℕ) (outcome : Outcome) (line : Option ℕ) (doc other : ℕ) (j last : List Entry) (is : last ≡ j ++ entry_by seat line (Committed doc other ticket outcome) ∷ []) where
-  same_last : last_acquiring d last ≡ last_acquiring d j
-  same_last = ap (last_acquiring d) is ∙ last_acquiring-push d j (entry_by seat line (Committed doc other ticket outcome))
-
-  same_released : released last ≡ released j
-  same_released = ap released is ∙ released-push j (entry_by seat line (Committed doc other ticket outcome)) ∙ append-nil (released j)
-
-  pub still_stale : staleness d token last ≡ staleness d token j
-  still_stale = ap₂ (λ (o : Option Acquiring) (ts : List ℕ). if token_in o == token then (if is_held_in o ts then None else Some Ended) else Some (Other (token_in o))) same_last same_released
-
-  pub still_holds : (by : ℕ) → Holds by d token j → Holds by d token last
-  still_holds by h = record {
-    acquiring = h.acquiring;
-    held = record { last = same_last ∙ h.held.last; standing = ap (is_in h.acquiring.token) same_released ∙ h.held.standing };
-    token_is = h.token_is;
-    seat_is = h.seat_is;
-  }

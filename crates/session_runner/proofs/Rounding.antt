@@ -14,9 +14,10 @@ use Rattle.turn_rules.specs.Clients.{is_joined}
 use Rattle.turn_rules.specs.Turns.{entry_by}
 use Rattle.run_rules.specs.Ending.{CatchesUp, CatchesUpIf, DrainsDry, InOrder, IsRound, Rounds}
 use Rattle.session_runner.specs.Apart.{IsUnjoined}
-use Rattle.session_runner.specs.Draining.{DrainsMany, Drained}
-use Rattle.session_runner.specs.declared.drain.DrainEnd.TheVariants.{Done}
-use Rattle.session_runner.proofs.Draining.{drains_done, fewer}
+use Rattle.dispatcher.specs.Draining.{DrainsMany, Drained}
+use Rattle.dispatcher.specs.declared.dispatch.DrainEnd.TheVariants.{Done}
+use Rattle.dispatcher.proofs.Draining.{drains_done}
+use Rattle.session_runner.proofs.Draining.{fewer}
 
 -- ---- nobody catches up
 not_joined : (st : ClientState) → st ≢ Joined → is_joined st ≡ false

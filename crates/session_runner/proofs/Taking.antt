@@ -1,46 +1,33 @@
--- What taking up an update finds and leaves, and why it is refused.
-use Rattle.std.proofs.Common.{◌≡◌, ◌⊎◌, ℕ, zero, suc, ◌+◌, ◌≤◌, ◌<◌, List, [], ◌∷◌, ◌++◌, length, Bool, true, false, true≢false, not, refl, sym, ap, ◌∙◌, subst, inl, inr, arith, eqb, eq-eqb, append-nil, length-append, All}
-use Rattle.std.specs.Prelude.{Option, Some, None, ◌==◌, nat_lt, ◌&&◌, map, option_map, if◌then◌else◌}
-use Rattle.std.proofs.lemmas.Bool.{lt-ltb, ltb-true}
-use Rattle.expiring_lock.specs.declared.lock.TheConstants.{LOCK_LIFE}
+-- Why taking up an update is refused, and what is prepared of one that was taken up.
+use Rattle.std.proofs.Common.{◌≡◌, ℕ, ◌≤◌, List, [], ◌∷◌, ◌++◌, length, Bool, true, false, true≢false, not, refl, sym, ap, ◌∙◌, subst, arith, append-nil, length-append}
+use Rattle.std.specs.Prelude.{Option, Some, None, ◌==◌, nat_lt, ◌&&◌, option_map, if◌then◌else◌}
+use Rattle.std.proofs.lemmas.Bool.{ltb-true}
 use Rattle.expiring_lock.specs.declared.refusal.Busy.{Busy}
 use Rattle.expiring_lock.specs.declared.refusal.Stale.{Stale}
 use Rattle.expiring_lock.specs.declared.refusal.Stale.TheVariants.{Other, Ended}
 use Rattle.dup_check.specs.declared.snapshot.Snapshot.{Snapshot}
-use Rattle.journal_entries.specs.declared.update.Cause.TheVariants.{Memory as NoMemory}
-use Rattle.journal_entries.specs.declared.act.Act.{Act}
 use Rattle.journal_entries.specs.declared.act.Entry.{Entry}
-use Rattle.journal_entries.specs.declared.why.Why.{Why}
 use Rattle.journal_entries.specs.declared.why.Why.TheVariants.{Empty as NothingWaits, Busy as IsBusy, Stale as IsStale}
 use Rattle.journal_rules.specs.Documents.{IsMade, is_in, makings, waiting}
-use Rattle.journal_rules.specs.Keeping.{cached, cached_by}
-use Rattle.journal_rules.specs.Legal.{IsAllowed, IsLegal}
-use Rattle.journal_rules.specs.Locks.{Acquiring, HeldBy, Holds, acquired_by, acquirings, acquiring_of, clock, is_expired, is_held, is_held_in, last_acquiring, last_token, next_token, released, released_by, token_in, used, used_by}
+use Rattle.journal_rules.specs.Keeping.{cached}
+use Rattle.journal_rules.specs.Locks.{Acquiring, acquirings, acquiring_of, is_expired, is_held, is_held_in, last_acquiring, last_token, released, token_in, used_by}
 use Rattle.journal_rules.specs.Whys.{IsBusyWith, IsWhy}
-use Rattle.journal_rules.proofs.Pushing.{acquirings-push, cached-push, last_acquiring-push, released-push, used-push}
+use Rattle.journal_rules.proofs.Pushing.{acquirings-push, cached-push}
 use Rattle.journal_rules.proofs.Lists.{some_same}
-use Rattle.turn_rules.specs.Draining.{Caches, HeldUp, StopsAt, TakesUp, stop_by}
+use Rattle.turn_rules.specs.Draining.{HeldUp, StopsAt, stop_by}
 use Rattle.turn_rules.specs.Locking.{acquired, busy, busy_by, staleness}
 use Rattle.turn_rules.specs.Turns.{entry_by}
 use Rattle.run_rules.specs.Lines.{not_held_by, not_holdable}
-use Rattle.book.specs.Calls.{MayRefuse, acquire_refused, refused_where, told}
+use Rattle.book.specs.Calls.{acquire_refused, refused_where}
 use Rattle.book.specs.Looking.{IsDecided, IsLookAt}
 use Rattle.book.specs.declared.faults.Prepared.{Prepared}
+use Rattle.dispatcher.proofs.Taking.{free_and_waits, last_taken, taking, token_taken}
 use Rattle.session_runner.specs.Holding.{Stands}
 use Rattle.journal_rules.proofs.Fencing.{made_stays}
 use Rattle.std.proofs.lemmas.List.Elements.{All-nil}
-use Rattle.book.specs.declared.faults.AcquireFault.{AcquireFault}
 use Rattle.book.specs.declared.faults.AcquireFault.TheVariants as acquire
-use Rattle.book.proofs.Acquirings.{next_unused}
-use Rattle.book.proofs.Tokens.{next_unreleased}
 
 -- ---- why it is refused
-free_and_waits : (b : Bool) (w : List ℕ) (o : Option Busy) → (if b then refused_where w o else Some acquire.NoDoc) ≡ None → (o ≡ None) × ((ticket : ℕ) × (rest : List ℕ) × (w ≡ ticket ∷ rest))
-free_and_waits false w o e = absurd (cc)
-free_and_waits true [] o e = absurd (cc)
-free_and_waits true (t ∷ ts) (Some b) e = absurd (cc)
-free_and_waits true (t ∷ ts) None e = (refl, (t, ts, refl))
-
 module _ (doc : ℕ) (j : List Entry) where
   empty_by : (b : Bool) (w : List ℕ) (o : Option Busy) → Some acquire.Empty ≡ (if b then refused_where w o else Some acquire.NoDoc) → w ≡ []
   empty_by false w o e = absurd (cc)
@@ -59,15 +46,6 @@ module _ (doc : ℕ) (j : List Entry) where
 
   pub held_up : (b : Busy) → Some (acquire.Busy b) ≡ acquire_refused doc j → StopsAt doc j (HeldUp b) × (busy doc j ≡ Some b) × (not_holdable doc j ≡ Some (IsBusy b))
   held_up b e = busy_where b (nat_lt doc (length (makings j))) (waiting doc j) (busy doc j) e
-
-  unmade_by : (b : Bool) (w : List ℕ) (o : Option Busy) → b ≡ true → Some acquire.NoDoc ≡ (if b then refused_where w o else Some acquire.NoDoc) → ⊥
-  unmade_by false w o made e = absurd (true≢false (sym made))
-  unmade_by true [] o made e = cc
-  unmade_by true (t ∷ ts) None made e = cc
-  unmade_by true (t ∷ ts) (Some b) made e = cc
-
-  pub not_unmade : IsMade doc j → Some acquire.NoDoc ≡ acquire_refused doc j → ⊥
-  not_unmade made e = unmade_by (nat_lt doc (length (makings j))) (waiting doc j) (busy doc j) (lt-ltb doc (length (makings j)) made) e
 
   pub empty_why : waiting doc j ≡ [] → not_holdable doc j ≡ Some NothingWaits
   empty_why none = ap (λ w. not_held_by (length w) (busy doc j)) none
@@ -129,53 +107,11 @@ stale_why doc token seat session j a stale made last e = by (last_token doc j ==
 
 -- ---- what it leaves
 module _ (seat : ℕ) (line : Option ℕ) (doc : ℕ) (old new : List Entry) (look : Snapshot) (is : new ≡ old ++ entry_by seat line (acquired doc old) ∷ []) (looks : IsLookAt new look) (doc_is : look.doc ≡ doc) where
-  abbrev taking : Acquiring
-  taking = record { seat = seat; doc = doc; token = next_token old; until = clock old + LOCK_LIFE }
+  abbrev took : Acquiring
+  took = taking seat line doc old new look is looks doc_is
 
-  pub last_taken : last_acquiring look.doc new ≡ Some taking
-  last_taken =
-      ap (λ d. last_acquiring d new) doc_is ∙ ap (last_acquiring doc) is ∙ last_acquiring-push doc old (entry_by seat line (acquired doc old))
-      ∙ ap (λ b. if b then Some taking else last_acquiring doc old) (eq-eqb doc doc refl)
-
-  pub token_taken : next_token old ≡ look.token
-  token_taken = ap (λ (a : Acquiring). a.token) (some_same taking looks.acquiring (sym last_taken ∙ looks.last)) ∙ looks.token_is
-
-  pub takes : acquire_refused doc old ≡ None → cached doc old ≡ true → TakesUp (entry_by seat line) doc look.token true old (entry_by seat line (acquired doc old) ∷ [])
-  takes e here =
-      let f = free_and_waits (nat_lt doc (length (makings old))) (waiting doc old) (busy doc old) e in
-      record {
-        free = f.0;
-        ticket = f.1.0;
-        rest = f.1.1;
-        first = f.1.2;
-        token_is = sym token_taken;
-        loading = [];
-        caches = subst (λ b. Caches b doc (Some look.token) true []) (sym here) (refl, refl);
-        made_is = refl;
-      }
-
-  module _ (legal : IsLegal old) where
-    unreleased : is_in look.token (released new) ≡ false
-    unreleased = ap (is_in look.token) (ap released is ∙ released-push old (entry_by seat line (acquired doc old)) ∙ append-nil (released old)) ∙ ap (λ t. is_in t (released old)) (sym token_taken) ∙ next_unreleased old legal
-
-    unused : is_in look.token (used new) ≡ false
-    unused = ap (is_in look.token) (ap used is ∙ used-push old (entry_by seat line (acquired doc old)) ∙ append-nil (used old)) ∙ ap (λ t. is_in t (used old)) (sym token_taken) ∙ next_unused old legal
-
-    pub may_refuse : MayRefuse new seat look.doc look.token look.ticket NoMemory
-    may_refuse = record {
-      holds = record { acquiring = taking; held = record { last = last_taken; standing = ap (λ t. is_in t (released new)) token_taken ∙ unreleased }; token_is = token_taken; seat_is = refl };
-      unused = unused;
-      rest = looks.rest;
-      first = looks.first;
-      cause_is = inl refl;
-    }
-
-    pub not_stale : staleness look.doc look.token new ≡ None
-    not_stale =
-        ap (λ o. if token_in o == look.token then (if is_held_in o (released new) then None else Some Ended) else Some (Other (token_in o))) last_taken
-        ∙ ap (λ t. if t == look.token then (if not (is_in t (released new)) then None else Some Ended) else Some (Other t)) token_taken
-        ∙ ap (λ b. if b then (if not (is_in look.token (released new)) then None else Some Ended) else Some (Other look.token)) (eq-eqb look.token look.token refl)
-        ∙ ap (λ b. if not b then None else Some Ended) unreleased
+  last_took : last_acquiring look.doc new ≡ Some took
+  last_took = last_taken seat line doc old new look is looks doc_is
 
   -- what was prepared of it stands
   module _ (p : Prepared) (look_is : p.look ≡ look) (seat_is : seat ≡ 0) (free : acquire_refused doc old ≡ None) (here : cached doc old ≡ true) where
@@ -191,7 +127,7 @@ module _ (seat : ℕ) (line : Option ℕ) (doc : ℕ) (old new : List Entry) (lo
     given_now : look.token ≤ length (acquirings new)
     given_now =
         let l = ap (λ (j : List Entry). length (acquirings j)) is in let a = ap length (acquirings-push old entry) in let n = length-append (acquirings old) (acquiring_of seat (acquired doc old)) in
-        let t = token_taken in omega (arith, l, a, n, t)
+        let t = token_taken seat line doc old new look is looks doc_is in omega (arith, l, a, n, t)
 
     at_look : Stands new (record { look = look; decision = p.decision }) → Stands new p
     at_look s = subst (λ (q : Prepared). Stands new q) (ap (λ (l : Snapshot). record { look = l; decision = p.decision }) (sym look_is)) s
@@ -202,8 +138,8 @@ module _ (seat : ℕ) (line : Option ℕ) (doc : ℕ) (old new : List Entry) (lo
       made = subst (λ d. IsMade d new) (sym doc_is) made_now;
       cached_is = ap (λ d. cached d new) doc_is ∙ cached_now;
       given = given_now;
-      last = taking;
-      last_is = last_taken;
+      last = took;
+      last_is = last_took;
       own = seat_is;
       named = looks.update_is;
       looked = record { early = new; more = []; journal_is = sym (append-nil new); looks = looks; unused = All-nil (λ (e : Entry). is_in look.token (used_by e.act) ≡ false) };
@@ -211,4 +147,4 @@ module _ (seat : ℕ) (line : Option ℕ) (doc : ℕ) (old new : List Entry) (lo
     })
       where
         seat_of : look.seat ≡ seat
-        seat_of = sym looks.seat_is ∙ ap (λ (a : Acquiring). a.seat) (some_same looks.acquiring taking (sym looks.last ∙ last_taken))
+        seat_of = sym looks.seat_is ∙ ap (λ (a : Acquiring). a.seat) (some_same looks.acquiring took (sym looks.last ∙ last_took))

@@ -1,6 +1,5 @@
 pub mod Fitting
 pub mod Apart
-pub mod Draining
 pub mod Holding
 pub mod Report
 pub mod Writing

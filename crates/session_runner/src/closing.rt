@@ -12,9 +12,9 @@ ghost use Rattle.turn_rules.specs.Turns.{entry_by};
 ghost use Rattle.run_rules.specs.Ending.{DrainsDry, EndsUnflushed, InOrder, Rounds};
 ghost use Rattle.session_runner.specs.Apart.{IsUnjoined};
 
-use crate::drain::{DrainEnd, drain, legal};
 use crate::driver::tick;
 use book::{Book, By};
+use dispatcher::{DrainEnd, drain, legal};
 use expiring_lock::LOCK_LIFE;
 use std::alloc::{AllocError, Global};
 

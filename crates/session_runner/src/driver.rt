@@ -18,10 +18,10 @@ ghost use Rattle.session_runner.specs.Apart.{GoesApart, IsBehind, IsUnjoined};
 ghost use Rattle.session_runner.specs.Fitting.{AreBuilt, AreFit, IsFit, is_built};
 ghost use Rattle.session_runner.specs.Holding.{IsDriver, kept_in};
 
-use crate::drain::{DrainEnd, drain, prepare};
 use book::{
     AcquireFault, Book, By, CommitFault, MakeFault, Prepared, RawFault, RawUpdate, TickFault,
 };
+use dispatcher::{DrainEnd, drain, prepare};
 use journal_entries::Why;
 use ot_units::{Name, Units};
 use session_lines::Line;

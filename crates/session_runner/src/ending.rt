@@ -10,10 +10,10 @@ ghost use Rattle.session_runner.specs.Fitting.{AreBuilt, AreFit, is_built as is_
 ghost use Rattle.session_runner.specs.Passing.{passed};
 
 use crate::closing::end_run;
-use crate::drain::legal;
 use crate::driver::do_lines;
 use crate::report::{WriteFault, write_report};
 use book::Book;
+use dispatcher::legal;
 use session_lines::{Line, ScriptFault, read_script};
 use source_sink::{ReadFault, Sink, Source, read_all, write_all};
 use std::alloc::{AllocError, Global};

@@ -2,7 +2,6 @@
 #![tactic(auto)]
 
 mod closing;
-mod drain;
 mod driver;
 mod ending;
 mod report;

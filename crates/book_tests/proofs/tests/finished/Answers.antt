@@ -1,11 +1,8 @@
 use Rattle.std.proofs.Common.{◌≡◌, ◌∷◌, ◌++◌, [], sym, ap, ◌∙◌, subst, List}
-use Rattle.std.specs.Prelude.{None}
 use Rattle.journal_entries.specs.declared.act.Entry.{Entry}
 use Rattle.journal_entries.specs.declared.act.Act.TheVariants.{Committed, Released}
 use Rattle.journal_rules.specs.Deciding.{decided}
-use Rattle.journal_rules.specs.Legal.{IsLegal}
 use Rattle.journal_rules.specs.Locks.{Holds}
-use Rattle.turn_rules.specs.Locking.{staleness}
 use Rattle.turn_rules.specs.Turns.{entry_by}
 use Rattle.book.specs.Looking.{IsOf, IsSince}
 use Rattle.book.specs.Shown.{Shown}

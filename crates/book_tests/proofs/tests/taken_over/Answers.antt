@@ -1,4 +1,4 @@
-use Rattle.std.proofs.Common.{◌≡◌, ℕ, arith}
+use Rattle.std.proofs.Common.{arith}
 use Rattle.book_tests.proofs.tests.taken_over.Goals as goal
 
 pub settled-stale-requires-clause-apart : goal.settled-stale-requires-clause-apart

@@ -3,7 +3,7 @@ use Rattle.journal_rules.specs.Documents.{waiting}
 use Rattle.journal_rules.specs.Locks.{next_token}
 use Rattle.turn_rules.specs.Locking.{busy}
 use Rattle.turn_rules.specs.Turns.{entry_by}
-use Rattle.session_runner.specs.Draining.{Drained}
+use Rattle.dispatcher.specs.Draining.{Drained}
 use Rattle.session_runner.proofs.Apart.{many_drained, same_joined, same_makings}
 use Rattle.session_runner.proofs.Draining.{still_free, never_held}
 use Rattle.session_runner.proofs.Rounding.{dry}

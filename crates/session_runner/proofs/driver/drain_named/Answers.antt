@@ -7,7 +7,7 @@ use Rattle.turn_rules.specs.Draining.{Done, Drains, HeldUp}
 use Rattle.turn_rules.specs.Turns.{Alone, entry_by}
 use Rattle.book.specs.Shown.{Shown}
 use Rattle.session_runner.proofs.Apart.{apart_on, many_drained, wrote}
-use Rattle.session_runner.proofs.Draining.{drains_done, drains_held_up}
+use Rattle.dispatcher.proofs.Draining.{drains_done, drains_held_up}
 use Rattle.session_runner.proofs.Lines.{drains_named, on_ok}
 use Rattle.session_runner.proofs.driver.drain_named.Goals as goal
 

@@ -93,8 +93,8 @@ invariant_of-self-2 c =
     let row = subst (λ n. IsAcquiring (entries s.journal) c.args.doc (n + 1) (s.moment + LOCK_LIFE)) (sym c.self.invariant.book.tokens_are) may in
     record {
       book = acquired_book s.journal c.make_room.new.journal c.push.new.self items c.take-until.new.self.items s.moment s.tokens s.owed s.drivers c.in-Ok-make_room.sum c.args.doc (s.moment + LOCK_LIFE) c.args.by.seat c.entry_of.result
-    c.self.invariant.book c.take-until.ensures.names c.make_room.ensures.entries c.in-Ok-make_room.ensures.room c.push.ensures.entries c.push.ensures.spare (ap (λ (e : Entry). e.seat) c.entry_of.ensures)
-    (ap (λ (e : Entry). e.act) c.entry_of.ensures ∙ ap (λ n. Acquired c.args.doc (s.tokens + 1) n) c.take-until.ensures.until) row c.take-until.ensures.taken;
+          c.self.invariant.book c.take-until.ensures.names c.make_room.ensures.entries c.in-Ok-make_room.ensures.room c.push.ensures.entries c.push.ensures.spare (ap (λ (e : Entry). e.seat) c.entry_of.ensures)
+          (ap (λ (e : Entry). e.act) c.entry_of.ensures ∙ ap (λ n. Acquired c.args.doc (s.tokens + 1) n) c.take-until.ensures.until) row c.take-until.ensures.taken;
       roomed = roomed_quiet_by s.rooms (entries s.journal) (entries c.make_room.new.journal) (entries c.push.new.self) c.args.by.seat c.args.by.line (Acquired c.args.doc (s.tokens + 1) c.take-until.result) c.entry_of.result c.entry_of.ensures c.make_room.ensures.entries c.push.ensures.entries c.self.invariant.book.stands.legal tt refl (λ d. refl) c.self.invariant.roomed;
     }
 

@@ -1,5 +1,5 @@
-use Rattle.std.proofs.Common.{◌≡◌, ◌+◌, ◌∙◌, ◌≤◌, List, [], ◌∷◌, ◌++◌, length, refl, sym, ap, ap₂, subst, arith}
-use Rattle.std.specs.Prelude.{slice_get, Option, Some, None}
+use Rattle.std.proofs.Common.{◌≡◌, ◌+◌, ◌∙◌, List, [], ◌∷◌, ◌++◌, length, refl, sym, ap, ap₂, subst, arith}
+use Rattle.std.specs.Prelude.{slice_get, Some, None}
 use Rattle.std.specs.Option.{option_copied}
 use Rattle.std.proofs.lemmas.Option.{slice_get_within}
 use Rattle.journal_entries.specs.Journals.{entries}
@@ -7,9 +7,8 @@ use Rattle.journal_entries.specs.declared.act.Act.TheVariants.{Joined}
 use Rattle.journal_entries.specs.declared.limits.TheConstants.{FIRST_SOURCE}
 use Rattle.turn_rules.specs.Turns.{entry_by}
 use Rattle.journal_entries.specs.declared.act.Entry.{Entry}
-use Rattle.journal_rules.specs.Documents.{IsMade, version, waiting}
+use Rattle.journal_rules.specs.Documents.{IsMade, version}
 use Rattle.journal_rules.specs.Legal.{IsJoining, source_at}
-use Rattle.share_client.specs.Clients.{Numbered}
 use Rattle.book.specs.Roomed.{IsClientOf}
 use Rattle.book.specs.Shown.{Shown}
 use Rattle.book.specs.Standing.{IsDocument}

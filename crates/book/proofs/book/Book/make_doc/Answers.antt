@@ -41,7 +41,7 @@ invariant_of-self-2 c =
     let few : length (makings (entries s.journal)) < 1000 = subst (λ (v : Shown). length (makings v.journal) < 1000) (sym c.self.view_is) c.requires.few in
     record {
       book = rw (c.in-Ok-add.ensures.names, c.in-Ok-add.ensures.items, c.in-Ok.ensures.name) (made_book s.journal c.make_room.new.journal c.push.new.self s.documents.items c.in-Ok.document s.moment s.tokens s.owed s.drivers c.in-Ok-make_room._sum c.in-Ok.entry c.len-doc.result c.args.name.now c.args.project.now c.args.first.now c.args.base
-    c.self.invariant.book c.make_room.ensures.entries c.in-Ok-make_room.ensures.room.0 c.in-Ok-make_room.ensures.room.1 c.push.ensures.entries c.push.ensures.spare (ap (λ (e : Entry). e.act) c.in-Ok.ensures.entry) making (omega (arith, few, count)) c.in-Ok.ensures.document);
+          c.self.invariant.book c.make_room.ensures.entries c.in-Ok-make_room.ensures.room.0 c.in-Ok-make_room.ensures.room.1 c.push.ensures.entries c.push.ensures.spare (ap (λ (e : Entry). e.act) c.in-Ok.ensures.entry) making (omega (arith, few, count)) c.in-Ok.ensures.document);
       roomed = roomed_quiet_by s.rooms (entries s.journal) (entries c.make_room.new.journal) (entries c.push.new.self) c.args.by.seat c.args.by.line (Made c.len-doc.result c.args.name.now c.args.project.now c.args.first.now c.args.base) c.in-Ok.entry c.in-Ok.ensures.entry c.make_room.ensures.entries c.push.ensures.entries c.self.invariant.book.stands.legal tt refl (λ d. refl) c.self.invariant.roomed;
     }
 

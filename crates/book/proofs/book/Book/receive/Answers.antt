@@ -11,7 +11,6 @@ use Rattle.journal_sizes.specs.Sizes.{IsAtEase}
 use Rattle.journal_sizes.proofs.Clients.{at_ease}
 use Rattle.journal_sizes.proofs.Mail.{mail_sized}
 use Rattle.mail_places.specs.Places.{told_at}
-use Rattle.share_client.specs.Clients.{Numbered}
 use Rattle.book.specs.Roomed.{IsClientOf}
 use Rattle.book.specs.Shown.{Shown}
 use Rattle.book.proofs.Booking.{quiet_by}

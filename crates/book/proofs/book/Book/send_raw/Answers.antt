@@ -26,7 +26,7 @@ invariant_of-self-in-Err c =
     let len = c.len.ensures in
     record {
       book = quiet_by s.journal c.make_room.new.journal c.push.new.self s.documents.items s.moment s.moment s.tokens s.owed s.drivers c.in-Ok-make_room._sum c.args.by.seat c.args.by.line (Malformed c.args.raw.now.doc c.in-Err.fault) c.entry_of.result c.entry_of.ensures
-    c.self.invariant.book c.make_room.ensures.entries c.in-Ok-make_room.ensures.room c.push.ensures.entries c.push.ensures.spare (omega (arith, count, within, len)) tt refl refl c.self.invariant.book.now_low;
+          c.self.invariant.book c.make_room.ensures.entries c.in-Ok-make_room.ensures.room c.push.ensures.entries c.push.ensures.spare (omega (arith, count, within, len)) tt refl refl c.self.invariant.book.now_low;
       roomed = roomed_quiet_by s.rooms (entries s.journal) (entries c.make_room.new.journal) (entries c.push.new.self) c.args.by.seat c.args.by.line (Malformed c.args.raw.now.doc c.in-Err.fault) c.entry_of.result c.entry_of.ensures c.make_room.ensures.entries c.push.ensures.entries c.self.invariant.book.stands.legal tt refl (λ d. refl) c.self.invariant.roomed;
     }
 

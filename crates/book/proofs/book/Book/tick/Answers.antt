@@ -13,6 +13,6 @@ invariant_of-self-2 c =
     let within = c.if-ms-self.false in
     record {
       book = quiet_by s.journal c.make_room.new.journal c.push.new.self s.documents.items s.moment (s.moment + c.args.ms) s.tokens s.owed s.drivers c.in-Ok._sum c.args.by.seat c.args.by.line (Ticked c.args.ms) c.entry_of.result c.entry_of.ensures
-    c.self.invariant.book c.make_room.ensures.entries c.in-Ok.ensures.room c.push.ensures.entries c.push.ensures.spare (omega (arith, now_is, now_low, within)) tt refl refl (omega (arith, now_low, within));
+          c.self.invariant.book c.make_room.ensures.entries c.in-Ok.ensures.room c.push.ensures.entries c.push.ensures.spare (omega (arith, now_is, now_low, within)) tt refl refl (omega (arith, now_low, within));
       roomed = roomed_quiet_by s.rooms (entries s.journal) (entries c.make_room.new.journal) (entries c.push.new.self) c.args.by.seat c.args.by.line (Ticked c.args.ms) c.entry_of.result c.entry_of.ensures c.make_room.ensures.entries c.push.ensures.entries c.self.invariant.book.stands.legal tt refl (λ d. refl) c.self.invariant.roomed;
     }

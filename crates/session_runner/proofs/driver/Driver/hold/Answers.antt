@@ -15,7 +15,8 @@ use Rattle.session_runner.specs.Holding.{AreHeld, kept, kept_in}
 use Rattle.session_runner.proofs.Apart.{wrote}
 use Rattle.session_runner.proofs.Holding.{kept_set, taken_up}
 use Rattle.session_runner.proofs.Lines.{declined, holds_already, holds_taken, holds_unnamed, holds_why, keeps_none, keeps_some, on_ok}
-use Rattle.session_runner.proofs.Taking.{empty_why, held_up, holdable, none_waits, stands_taken, takes, token_taken}
+use Rattle.dispatcher.proofs.Taking.{takes, token_taken}
+use Rattle.session_runner.proofs.Taking.{empty_why, held_up, holdable, none_waits, stands_taken}
 use Rattle.session_runner.proofs.driver.Driver.hold.Goals as goal
 
 pub returns-then-is_kept-clause-holds : goal.returns-then-is_kept-clause-holds

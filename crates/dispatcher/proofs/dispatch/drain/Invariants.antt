@@ -1,8 +1,8 @@
 use Rattle.std.proofs.Common.{◌≡◌, ◌≤◌, ◌-◌}
 use Rattle.journal_rules.specs.Documents.{IsMade}
 use Rattle.turn_rules.specs.Turns.{entry_by}
-use Rattle.session_runner.specs.Draining.{DrainsMany}
-use Rattle.session_runner.proofs.drain.drain.Given as goal
+use Rattle.dispatcher.specs.Draining.{DrainsMany}
+use Rattle.dispatcher.proofs.dispatch.drain.Given as goal
 
 -- so many were drained so far
 abbrev pub invariant-draining : goal.invariant-draining

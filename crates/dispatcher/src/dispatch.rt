@@ -14,7 +14,7 @@ ghost use Rattle.journal_rules.specs.Locks.{Holds};
 ghost use Rattle.turn_rules.specs.Draining.{DrainsOne, IsCommit, Settles, Under};
 ghost use Rattle.turn_rules.specs.Locking.{staleness};
 ghost use Rattle.turn_rules.specs.Turns.{Alone, Turn, entry_by};
-ghost use Rattle.session_runner.specs.Draining.{Drained};
+ghost use Rattle.dispatcher.specs.Draining.{Drained};
 
 use book::{AcquireFault, Book, By, Prepared};
 use dup_check::{Snapshot, decide};
@@ -22,20 +22,27 @@ use expiring_lock::Busy;
 use journal_entries::Cause;
 use std::alloc::{AllocError, Global};
 
-/// How draining ended, and how many updates were committed.
+/// How draining ended, and how many updates were committed: `count` is the number of the `committed` entries
+/// that the call made, those that refuse an update among them.
 #[derive(Clone, Copy, Debug, PartialEq, Eq)]
-pub(crate) enum DrainEnd {
+pub enum DrainEnd {
     /// As many as may be were drained, or nothing waits.
     Done { count: u64 },
-    /// The document is held, and the lock hasn't expired.
+    /// An update waits, but the document is held under a lock that hasn't expired: `busy` tells its token, and
+    /// until which moment of the script's clock, in milliseconds, it keeps others out.
     Busy { count: u64, busy: Busy },
-    /// Memory was wanting as the lock was to be acquired.
+    /// An update waits and the document is free, but memory was wanting to acquire the lock. What was drained
+    /// before stands.
     Memory { count: u64 },
 }
 
-/// Drains at most so many of the updates that wait for a document. Where memory is wanting for a
-/// decision or its commit, the update is refused for that.
-pub(crate) fn drain(alloc: Global, book: &mut Book, by: By, doc: u32, most: u64) -> DrainEnd
+/// Drains at most `most` of the updates that wait for document `doc`, the first first, without waiting: for each
+/// the lock is acquired, the decision made and committed, and the lock released. `doc` is the number of a
+/// document that was made. The entries are by `by`.
+///
+/// Where memory is wanting for a decision or its commit, the update is refused for that, which takes no memory;
+/// draining goes on. It ends early only as [`DrainEnd`] says, and no lock is kept at its end.
+pub fn drain(alloc: Global, book: &mut Book, by: By, doc: u32, most: u64) -> DrainEnd
     requires made { IsMade doc book.old.journal }
     ensures drained { Drained (entry_by by.seat by.line) doc most book.old.journal book.new.journal result }
     ensures drivers { book.new.drivers ≡ book.old.drivers }
@@ -123,8 +130,9 @@ fn commit_decision(alloc: Global, book: &mut Book, by: By, look: Snapshot) -> bo
     true
 }
 
-/// Decides by a look.
-pub(crate) fn prepare(alloc: Global, look: Snapshot) -> Result<Prepared, AllocError>
+/// Decides by a look that `Book::acquire` answered, for `Book::commit`. The book isn't asked, so others may have it
+/// meanwhile. Memory may be wanting.
+pub fn prepare(alloc: Global, look: Snapshot) -> Result<Prepared, AllocError>
     requires { CanDecide look }
     ensures look { IfOk result (λ p. p.look ≡ look) }
     ensures decided { IfOk result (λ p. IsDecided p.look p.decision) }
@@ -133,8 +141,8 @@ pub(crate) fn prepare(alloc: Global, look: Snapshot) -> Result<Prepared, AllocEr
     Ok(Prepared { look, decision })
 }
 
-/// The journal of a book is legal. Does nothing.
-pub(crate) fn legal(book: &Book)
+/// The journal of a book is legal: a law. Does nothing.
+pub fn legal(book: &Book)
     ensures { IsLegal book.now.journal }
 {
     let _journal = book.journal();

@@ -2,7 +2,7 @@ use Rattle.std.proofs.Common.{◌∷◌, [], refl, ap, inl}
 use Rattle.journal_entries.specs.declared.act.Act.TheVariants.{Released}
 use Rattle.turn_rules.specs.Turns.{entry_by}
 use Rattle.book.specs.Shown.{Shown}
-use Rattle.session_runner.proofs.drain.settle.Goals as goal
+use Rattle.dispatcher.proofs.dispatch.settle.Goals as goal
 
 pub returns-clause-settles : goal.returns-clause-settles
 returns-clause-settles c =

@@ -3,9 +3,9 @@ use Rattle.turn_rules.specs.Draining.{Settles}
 use Rattle.turn_rules.specs.Locking.{acquired}
 use Rattle.turn_rules.specs.Turns.{Alone, entry_by}
 use Rattle.book.specs.Shown.{Shown}
-use Rattle.session_runner.proofs.Draining.{made_behind}
-use Rattle.session_runner.proofs.Taking.{may_refuse, not_stale, takes}
-use Rattle.session_runner.proofs.drain.drain_one.Goals as goal
+use Rattle.dispatcher.proofs.Draining.{made_behind}
+use Rattle.dispatcher.proofs.Taking.{may_refuse, not_stale, takes}
+use Rattle.dispatcher.proofs.dispatch.drain_one.Goals as goal
 
 pub settle-requires-clause-may : goal.settle-requires-clause-may
 settle-requires-clause-may c =
@@ -32,4 +32,4 @@ returns-clause-drains c =
     )
 
 pub returns-clause-made : goal.returns-clause-made
-returns-clause-made c = made_behind c.args.by.seat c.args.by.line c.args.doc c.args.book.now.journal c.settle.new.book.journal (returns-clause-drains c) c.requires.made
+returns-clause-made c = made_behind (entry_by c.args.by.seat c.args.by.line) c.args.doc c.args.book.now.journal c.settle.new.book.journal (returns-clause-drains c) c.requires.made

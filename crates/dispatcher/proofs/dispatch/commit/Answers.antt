@@ -1,12 +1,11 @@
 use Rattle.std.proofs.Common.{◌≡◌, ◌∙◌, ◌∷◌, ◌++◌, [], refl, ap}
 use Rattle.journal_entries.specs.declared.act.Act.TheVariants.{Committed}
 use Rattle.journal_entries.specs.declared.update.Cause.TheVariants.{Memory as NoMemory}
-use Rattle.journal_entries.specs.declared.update.Outcome.{Outcome}
 use Rattle.journal_entries.specs.declared.update.Outcome.TheVariants.{Refused}
 use Rattle.turn_rules.specs.Turns.{entry_by}
 use Rattle.book.specs.Shown.{Shown}
-use Rattle.session_runner.proofs.Holding.{still_holds, still_stale}
-use Rattle.session_runner.proofs.drain.commit.Goals as goal
+use Rattle.dispatcher.proofs.Holding.{still_holds, still_stale}
+use Rattle.dispatcher.proofs.dispatch.commit.Goals as goal
 
 pub returns-in-Ok-clause-held : goal.returns-in-Ok-clause-held
 returns-in-Ok-clause-held c =

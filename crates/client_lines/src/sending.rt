@@ -1,0 +1,39 @@
+//! A client sends what is pending.
+
+ghost use Rattle.std.specs.Prelude.{◌≡◌, ◌∷◌, [], OnOk, IfOk, IfErr, Option, None, Some};
+ghost use Rattle.book.specs.Roomed.{IsClientAfter, IsClientOf};
+ghost use Rattle.book.specs.Shown.{adds};
+ghost use Rattle.turn_rules.specs.Clients.{send_act};
+ghost use Rattle.client_lines.specs.Refusals.{send_why};
+
+use book::{Book, By};
+use journal_entries::Why;
+use share_client::{SendFault, ShareClient};
+use std::alloc::AllocError;
+
+/// A client sends what is pending, or the line is declined for what stands against it. The only error
+/// is want of memory.
+pub fn send(book: &mut Book, client: &mut ShareClient, by: By) -> Result<(), AllocError>
+    requires { IsClientOf book.old.journal client.old }
+    ensures sends { OnOk result (book.new ≡ adds book.old by.seat by.line (send_act client.old.client book.old.journal ∷ [])) }
+    ensures client { OnOk result (IsClientAfter book.new.journal client.old client.new) }
+{
+    match book.send(by, client) {
+        Ok(_) => Ok(()),
+        Err(fault) => match why_of(fault) {
+            Some(why) => book.decline(by, client.client(), why),
+            None => Err(AllocError),
+        },
+    }
+}
+
+pub(crate) fn why_of(fault: SendFault) -> Option<Why>
+    ensures { result ≡ send_why fault }
+{
+    match fault {
+        SendFault::NotJoined => Some(Why::NotJoined),
+        SendFault::InFlight => Some(Why::InFlight),
+        SendFault::Nothing => Some(Why::Nothing),
+        SendFault::Memory => None,
+    }
+}

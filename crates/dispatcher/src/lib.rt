@@ -1,0 +1,6 @@
+//! Who takes up the updates that wait for documents: `drain`.
+#![tactic(auto)]
+
+mod dispatch;
+
+pub use dispatch::{DrainEnd, drain, legal, prepare};
