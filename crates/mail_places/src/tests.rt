@@ -119,7 +119,7 @@ fn worked(alloc: Global) -> Result<Vec<Entry>, Fail> {
 
 fn said(alloc: Global, msg: Option<Msg>) -> Result<String, Fail> {
     Ok(match msg {
-        Some(Msg::Op { v, op, source }) if op.len() == 1 => {
+        Some(Msg::Op { v, op, source }) if op.comps().len() == 1 => {
             format!(in alloc; "op {v} from {source}")?
         }
         Some(Msg::Op { .. }) => format!(in alloc; "another operation")?,
