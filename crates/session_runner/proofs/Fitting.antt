@@ -65,6 +65,8 @@ is_fit ls (Doc doc project text v) within may =
       within.1,
     )
 is_fit ls (Raw session doc user source dup track v op) within may = (within.0, raw_fit op within.1)
+is_fit ls (Ins session p text) within may = within
+is_fit ls (Del session p n) within may = within
 is_fit ls _ within may = tt
 
 makings_push : (ms : List Making) (ls : List Line) (l : Line) → all_makings ms (ls ++ l ∷ []) ≡ makings_by (all_makings ms ls) l

@@ -1,10 +1,12 @@
 pub mod Lists
 pub mod Words
 pub mod Writing
+pub mod Clients
 pub mod Apart
 pub mod Draining
 pub mod Taking
 pub mod Holding
+pub mod Quiet
 pub mod Lines
 pub mod Finishing
 pub mod Fitting

@@ -1,4 +1,5 @@
 pub mod Fitting
+pub mod Clients
 pub mod Apart
 pub mod Holding
 pub mod Report
