@@ -11,6 +11,8 @@ use Rattle.journal_rules.proofs.Pushing.{client-none, client-push}
 use Rattle.book.specs.Roomed.{IsClientAfter, IsClientOf}
 use Rattle.book.proofs.Lists.{same_item, set_elsewhere, set_here}
 use Rattle.share_client.specs.Clients.{Numbered}
+use Rattle.book.specs.Shown.{Shown, adds}
+use Rattle.turn_rules.specs.Turns.{entry_by}
 use Rattle.session_runner.specs.Clients.{AreClientsOf, StayAll, StayOthers, is_at_most, is_clientless, is_of_none, is_of_session}
 
 -- ---- an entry of no client
@@ -63,3 +65,10 @@ one_moves clients session was now j k at after stay are = record { each = λ c s
     by c s here (inr t) =
         let was_there = are.each c s (set_elsewhere clients session c now s t.1 here) in
         (was_there.0, was_there.1 ∙ sym (stay s.client (λ same. t.1 (sym was_there.0 ∙ same))))
+
+-- ---- a book with an entry more of no client
+pub stays_on : (left mid last : List Entry) → StayAll left mid → StayAll mid last → StayAll left last
+stays_on left mid last one two c = two c ∙ one c
+
+pub added_stays : (left last : Shown) (seat : ℕ) (line : Option ℕ) (act : Act) → last ≡ adds left seat line (act ∷ []) → is_of_none act ≡ true → StayAll left.journal last.journal
+added_stays left last seat line act is none c = ap (λ (b : Shown). client c b.journal) is ∙ one_stays left.journal (entry_by seat line act) none c

@@ -7,6 +7,8 @@ pub mod Draining
 pub mod Taking
 pub mod Holding
 pub mod Quiet
+pub mod Getting
+pub mod Owning
 pub mod Lines
 pub mod Finishing
 pub mod Fitting

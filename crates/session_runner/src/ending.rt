@@ -10,7 +10,7 @@ ghost use Rattle.session_runner.specs.Fitting.{AreBuilt, AreFit, is_built as is_
 ghost use Rattle.session_runner.specs.Passing.{passed};
 
 use crate::closing::end_run;
-use crate::driver::do_lines;
+use crate::driver::{Left, do_lines};
 use crate::report::{WriteFault, write_report};
 use book::Book;
 use dispatcher::legal;
@@ -115,6 +115,13 @@ fn is_built(line: &Line) -> bool
         Line::Doc { .. }
             | Line::Tick { .. }
             | Line::Raw { .. }
+            | Line::Join { .. }
+            | Line::Send { .. }
+            | Line::Recv { .. }
+            | Line::Ins { .. }
+            | Line::Del { .. }
+            | Line::Com { .. }
+            | Line::Sync { .. }
             | Line::Drain { .. }
             | Line::Hold { .. }
             | Line::Finish { .. }
@@ -129,8 +136,11 @@ fn run_lines(alloc: Global, lines: Vec<Line>, sessions: u32) -> Result<Book, All
     requires few { length lines.items ≤ 16777216 }
     ensures { IfOk result (λ book. FollowsUnflushed lines.items sessions book.journal) }
 {
-    let mut book = do_lines(alloc, lines, sessions)?;
-    end_run(alloc, &mut book)?;
+    let Left {
+        mut book,
+        mut clients,
+    } = do_lines(alloc, lines, sessions)?;
+    end_run(alloc, &mut book, &mut clients)?;
     Ok(book)
 }
 

@@ -4,8 +4,10 @@
 mod closing;
 mod driver;
 mod ending;
+mod mail;
 mod report;
 mod run;
+mod syncing;
 
 pub use run::run_alone;
 
