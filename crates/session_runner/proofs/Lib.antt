@@ -10,5 +10,6 @@ pub mod Quiet
 pub mod Lines
 pub mod Finishing
 pub mod Fitting
+pub mod Getting
 pub mod Rounding
 pub mod Completing
