@@ -11,5 +11,6 @@ pub mod Lines
 pub mod Finishing
 pub mod Fitting
 pub mod Getting
+pub mod Catching
 pub mod Rounding
 pub mod Completing
