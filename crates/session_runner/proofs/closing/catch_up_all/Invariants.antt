@@ -9,6 +9,6 @@ abbrev pub invariant-loop-client : goal.invariant-loop-client
 invariant-loop-client l = record {
   catches : InOrder CatchesUp l.client-index l.initial.book.journal l.book.journal;
   free : (doc : ℕ) → busy doc l.book.journal ≡ None;
-  clients : AreClientsOf l.clients.items l.book.journal;
-  sessions : length l.clients.items ≡ length l.initial.clients.items;
+  clients : AreClientsOf l.client-items l.book.journal;
+  sessions : length l.client-items ≡ length l.initial.client-items;
 }
