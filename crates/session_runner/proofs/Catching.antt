@@ -1,7 +1,7 @@
 -- A client that catches up: it gets its mail, and sends.
-use Rattle.std.proofs.Common.{◌≡◌, ℕ, ◌+◌, List, [], ◌∷◌, ◌++◌, Bor, Bool, true, false, not, true≢false, refl, sym, ap, ap₂, ◌∙◌, subst, append-nil, eq-eqb}
+use Rattle.std.proofs.Common.{◌≡◌, ℕ, ◌+◌, List, [], ◌∷◌, ◌++◌, Bor, true, false, not, true≢false, refl, sym, ap, ◌∙◌, subst, append-nil, eq-eqb}
 use Rattle.std.specs.Option.{option_copied}
-use Rattle.std.specs.Prelude.{is_some, Option, Some, None, Result, Ok, Err, IfErr, OnErr, OnOk, map, unwrap_or, if◌then◌else◌}
+use Rattle.std.specs.Prelude.{is_some, Option, Some, None, Result, Ok, Err, IfErr, OnErr, OnOk, map, if◌then◌else◌}
 use Rattle.ot_op.specs.declared.comp.Comp.{Comp}
 use Rattle.journal_entries.specs.declared.update.Update.{Update}
 use Rattle.journal_entries.specs.declared.act.Act.TheVariants.{Sent}

@@ -1,21 +1,15 @@
 -- The rounds at the end of a run.
-use Rattle.std.proofs.Common.{◌≡◌, ◌≢◌, ◌⊎◌, ℕ, zero, suc, ◌+◌, ◌-◌, ◌<◌, ◌≤◌, List, [], ◌∷◌, ◌++◌, length, Bool, true, false, true≢false, ◌||◌, ◌&&◌, refl, sym, ap, ap₂, ◌∙◌, subst, inl, inr, arith, All}
-use Rattle.std.specs.Prelude.{Option, Some, None}
+use Rattle.std.proofs.Common.{◌≡◌, ◌≢◌, ◌⊎◌, ℕ, zero, suc, ◌+◌, ◌-◌, ◌<◌, ◌≤◌, List, [], ◌∷◌, length, Bool, true, false, true≢false, ◌||◌, refl, sym, ap, ap₂, ◌∙◌, subst, inl, inr, arith}
+use Rattle.std.specs.Prelude.{None}
 use Rattle.journal_entries.specs.declared.act.Act.{Act}
 use Rattle.journal_entries.specs.declared.act.Act.TheVariants.{Acquired}
 use Rattle.journal_entries.specs.declared.act.Entry.{Entry}
-use Rattle.journal_rules.specs.declared.state.ClientState.{ClientState}
-use Rattle.journal_rules.specs.declared.state.ClientState.TheVariants.{Joined}
-use Rattle.journal_rules.specs.Client.{client, has_flight}
-use Rattle.journal_rules.specs.Documents.{makings, waiting}
+use Rattle.journal_rules.specs.Documents.{waiting}
 use Rattle.journal_rules.specs.Legal.{IsLegal}
-use Rattle.journal_rules.specs.Mail.{mail}
-use Rattle.ending_rules.specs.Rounds.{any_below, has_any, is_unfinished, needs_round}
-use Rattle.ending_rules.proofs.Clients.{below_clients}
-use Rattle.turn_rules.specs.Clients.{is_joined}
+use Rattle.ending_rules.specs.Rounds.{any_below, has_any, needs_round}
 use Rattle.turn_rules.specs.Turns.{entry_by}
-use Rattle.run_rules.specs.Ending.{CatchesUp, CatchesUpIf, DrainsDry, InOrder, IsRound, Rounds}
-use Rattle.dispatcher.specs.Draining.{DrainsMany, Drained}
+use Rattle.run_rules.specs.Ending.{DrainsDry, InOrder, IsRound, Rounds}
+use Rattle.dispatcher.specs.Draining.{Drained}
 use Rattle.dispatcher.specs.declared.dispatch.DrainEnd.TheVariants.{Done}
 use Rattle.dispatcher.proofs.Draining.{drains_done}
 use Rattle.run_rules.specs.Counting.{is_taking}

@@ -1,4 +1,4 @@
-use Rattle.std.proofs.Common.{◌≡◌, ◌∙◌, ◌++◌, sym, ap, refl}
+use Rattle.std.proofs.Common.{◌∙◌, ◌++◌, sym, ap, refl}
 use Rattle.std.specs.Prelude.{map}
 use Rattle.journal_rules.specs.Client.{Client}
 use Rattle.turn_rules.specs.Clients.{is_joined}

@@ -1,9 +1,5 @@
-use Rattle.std.proofs.Common.{◌≡◌, ◌∙◌, ℕ, Some, None, [], sym, ap, refl, subst}
-use Rattle.journal_rules.specs.Documents.{waiting}
+use Rattle.std.proofs.Common.{None}
 use Rattle.journal_rules.specs.Locks.{next_token}
-use Rattle.turn_rules.specs.Locking.{busy}
-use Rattle.turn_rules.specs.Turns.{entry_by}
-use Rattle.dispatcher.specs.Draining.{Drained}
 use Rattle.session_runner.proofs.Apart.{many_drained, same_clients, same_makings}
 use Rattle.session_runner.proofs.Draining.{still_free, never_held}
 use Rattle.session_runner.proofs.Rounding.{dry}

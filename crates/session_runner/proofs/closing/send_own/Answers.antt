@@ -1,4 +1,4 @@
-use Rattle.std.proofs.Common.{◌≡◌, ◌∙◌, ◌+◌, [], sym}
+use Rattle.std.proofs.Common.{◌∙◌, ◌+◌, [], sym}
 use Rattle.std.specs.Prelude.{unwrap_or}
 use Rattle.journal_rules.specs.Client.{update_from}
 use Rattle.journal_rules.specs.Locks.{clock}
