@@ -1,4 +1,4 @@
-use Rattle.std.proofs.Common.{ℕ, ◌≡◌, ◌∙◌, sym, ap, ap₂, subst, refl}
+use Rattle.std.proofs.Common.{ℕ, ◌∙◌, sym, ap, subst, refl}
 use Rattle.std.specs.Prelude.{slice_get}
 use Rattle.journal_rules.specs.Mail.{mail}
 use Rattle.turn_rules.specs.Turns.{Alone, entry_by}
