@@ -3,8 +3,8 @@
 #![tactic(auto)]
 
 mod edits;
-mod mail;
 mod joining;
+mod mail;
 mod sending;
 
 pub use edits::edit;

@@ -14,7 +14,7 @@ use Rattle.session_lines.specs.Names.{same_name}
 use Rattle.session_lines.specs.Script.{documents_of, makes_document, may_make, may_join, may_follow}
 use Rattle.session_lines.specs.Standing.{AreSlow, AreStanding, IsWithin, moved_by}
 use Rattle.session_lines.specs.declared.line.Line.{Line}
-use Rattle.session_lines.specs.declared.line.Line.TheVariants.{Doc, Raw}
+use Rattle.session_lines.specs.declared.line.Line.TheVariants.{Doc, Raw, Ins, Del}
 use Rattle.session_runner.specs.Ending.{first_unbuilt}
 use Rattle.session_runner.specs.Fitting.{AreBuilt, AreFit, IsFit, is_built, makings_by}
 

@@ -12,7 +12,6 @@ pub mod Owning
 pub mod Lines
 pub mod Finishing
 pub mod Fitting
-pub mod Getting
 pub mod Catching
 pub mod Rounding
 pub mod Completing

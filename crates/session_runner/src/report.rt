@@ -133,11 +133,10 @@ fn write_clients<W: Sink>(
     ensures cause { HasCauseOf (W.count out.old) (W.count out.new) result WriteFault.Failed }
 {
     for (n, name) in run.names.as_slice().iter().enumerate() {
-        write_line(
-            line_of_client(alloc, n as u32, name, &run.clients[n]),
-            buffer,
-            out,
-        )?;
+        let Some(client) = run.clients.get(n) else {
+            unreachable!()
+        };
+        write_line(line_of_client(alloc, n as u32, name, client), buffer, out)?;
     }
     Ok(())
 }
