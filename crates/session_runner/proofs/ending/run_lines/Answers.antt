@@ -14,8 +14,9 @@ end_run-requires-clause-low c = let low = ticks_low c.args.lines.items c.require
 pub returns : goal.returns
 returns c =
     let many = c.in_ok-book.ensures.many in
+    let j = c.in_ok-book.field-0.book.journal in
     record {
-      follows = record { done = c.in_ok-book.book.journal; leads = c.in_ok-book.ensures.leads; ends = subst (λ n. EndsUnflushed n (c.in_ok-book.book.journal ++ entry_by 0 None (Closed 0) ∷ []) c.end_run.new.book.journal) many c.in_ok-end_run.ensures.ends };
+      follows = record { done = j; leads = c.in_ok-book.ensures.leads; ends = subst (λ n. EndsUnflushed n (j ++ entry_by 0 None (Closed 0) ∷ []) c.end_run.new.book.journal) many c.in_ok-end_run.ensures.ends };
       clients = c.in_ok-end_run.ensures.clients;
       many = c.in_ok-end_run.ensures.sessions ∙ many;
     }

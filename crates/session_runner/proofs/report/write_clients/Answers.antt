@@ -1,11 +1,11 @@
 use Rattle.std.proofs.Common.{rules, ◌≡◌, ◌<◌, ◌+◌, ◌++◌, ◌∙◌, ℕ, List, [], length, take, drop, get_or, Err, sym, ap, subst, arith}
 use Rattle.std.specs.Prelude.{slice_get, Some}
-use Rattle.std.specs.Option.{option_copied}
 use Rattle.std.proofs.lemmas.Result.{IfOk-weaker}
-use Rattle.book.proofs.Lists.{none_within}
+use Rattle.share_client.specs.Clients.{Numbered}
 use Rattle.journal_rules.specs.Client.{Client, client}
 use Rattle.run_rules.specs.Report.{client_line, client_line_of, client_lines, end_state}
 use Rattle.session_runner.specs.Writing.{Pushed}
+use Rattle.session_runner.proofs.Owning.{get_there}
 use Rattle.session_runner.proofs.Writing.{clients_cut, clients_more, longer, regrouped, regrouped_prefix}
 use Rattle.session_runner.proofs.report.write_clients.Goals as goal
 
@@ -18,11 +18,12 @@ overflow_cast-n g c =
 
 pub unreachable-requires : goal.unreachable-requires
 unreachable-requires g c =
-    let high = none_within c.args.run.now.clients.items c.loop-n.n (sym c.get.ensures ∙ ap option_copied c.in_default.is) in
+    let high = c.in_default.ensures.lookup.3 in
     let lt = c.loop-n-test.true in
     let many = c.requires.many in
     let same = ap length c.as_slice-name-items.ensures in
-    absurd (omega (arith, high, lt, many, same))
+    let deref = ap length c.deref.ensures.value in
+    absurd (omega (arith, high, lt, many, same, deref))
 
 pub returns-in_err-write_line-clause-pushed : goal.returns-in_err-write_line-clause-pushed
 returns-in_err-write_line-clause-pushed g c = λ start text given.
@@ -34,7 +35,9 @@ returns-in_err-write_line-clause-pushed g c = λ start text given.
     let line = client_line n name j in
     let items = c.as_slice-name-items.ensures in
     let s = c.in-Some.client.now in
-    let at : slice_get c.args.run.now.clients.items n ≡ Some s = sym c.get.ensures ∙ ap option_copied c.in-Some.is in
+    let deref = c.deref.ensures.value in
+    let there = c.in-Some.ensures.lookup in
+    let at : slice_get c.args.run.now.clients.items n ≡ Some s = get_there c.args.run.now.clients.items n s (subst (λ (l : List Numbered). n < length l) deref there.3.0) (there.1 ∙ ap (λ (l : List Numbered). get_or l n s) deref) in
     let own = c.requires.clients.each n s at in
     let same : s.now ≡ client n j = own.1 ∙ ap (λ k. client k j) own.0 in
     let written = IfOk-weaker c.line_of_client.result _ (λ made. made.items ≡ line) (λ made is. is ∙ ap (λ (x : Client). client_line_of n name x (end_state x.state)) same) c.line_of_client.ensures in
@@ -56,7 +59,9 @@ loop-n-preserved g c =
     let line = client_line n name j in
     let items = c.as_slice-name-items.ensures in
     let s = c.in-Some.client.now in
-    let at : slice_get c.args.run.now.clients.items n ≡ Some s = sym c.get.ensures ∙ ap option_copied c.in-Some.is in
+    let deref = c.deref.ensures.value in
+    let there = c.in-Some.ensures.lookup in
+    let at : slice_get c.args.run.now.clients.items n ≡ Some s = get_there c.args.run.now.clients.items n s (subst (λ (l : List Numbered). n < length l) deref there.3.0) (there.1 ∙ ap (λ (l : List Numbered). get_or l n s) deref) in
     let own = c.requires.clients.each n s at in
     let same : s.now ≡ client n j = own.1 ∙ ap (λ k. client k j) own.0 in
     let written = IfOk-weaker c.line_of_client.result _ (λ made. made.items ≡ line) (λ made is. is ∙ ap (λ (x : Client). client_line_of n name x (end_state x.state)) same) c.line_of_client.ensures in
