@@ -1,6 +1,6 @@
 -- The clients in the rooms of a book after one entry more.
 use Rattle.std.proofs.Common.{◌≡◌, ◌≢◌, ◌⊎◌, inl, inr, ℕ, ◌+◌, ◌≤◌, List, [], ◌∷◌, ◌++◌, length, drop, Bool, true, false, ◌&&◌, refl, sym, ap, ap₂, ◌∙◌, subst, arith, eqb, length-append}
-use Rattle.std.specs.Prelude.{slice_get, Option, Some, None, option_map, if◌then◌else◌}
+use Rattle.std.specs.Prelude.{slice_get, Option, Some, None, is_some, option_map, if◌then◌else◌}
 use Rattle.std.proofs.lemmas.Bool.Decides.{eqb_tells}
 use Rattle.rooms.specs.Rooms.{Membership, Roomed, AreRoomier, AreTold, HaveRoom, first_posted, Joins, Moves, Pops, member, posted, posted_in, without_first as rest_of}
 use Rattle.journal_entries.specs.declared.update.Update.{Update}
@@ -327,3 +327,12 @@ sourced_if_told rooms c place next none = by (member c rooms) next none
     by : (a : Option Membership) → option_and_then first_posted a ≡ Some place → option_map (λ (m : Membership). m.source) a ≡ None → ⊥
     by None next none = absurd (cc)
     by (Some m) next none = absurd (cc)
+
+-- something is first in its outbox just where it has mail
+pub told_first : (rooms : Roomed) (j : List Entry) (c : ℕ) → IsLegal j → AreRoomed rooms j → is_some (option_and_then first_posted (member c rooms)) ≡ is_some (slice_get (mail c j) 0)
+told_first rooms j c legal were = by (option_and_then first_posted (member c rooms)) refl (option_map (λ (m : Membership). m.source) (member c rooms)) refl
+  where
+    by : (first : Option ℕ) → option_and_then first_posted (member c rooms) ≡ first → (source : Option ℕ) → option_map (λ (m : Membership). m.source) (member c rooms) ≡ source → is_some (option_and_then first_posted (member c rooms)) ≡ is_some (slice_get (mail c j) 0)
+    by None next source under = ap (λ (o : Option ℕ). is_some o) next ∙ sym (ap (λ (ms : List Msg). is_some (slice_get ms 0)) (none_told rooms j c legal were next))
+    by (Some place) next (Some source) under = ap (λ (o : Option ℕ). is_some o) next ∙ sym (ap (λ (ms : List Msg). is_some (slice_get ms 0)) (first_told rooms j c place source legal were next under).3)
+    by (Some place) next None under = absurd (sourced_if_told rooms c place next under)

@@ -1,7 +1,8 @@
-//! What a book is read for at the end of a run: its documents as they stand.
+//! What a book is read for at the end of a run: its documents as they stand, and who has mail.
 
-ghost use Rattle.std.specs.Prelude.{◌≡◌, Some};
+ghost use Rattle.std.specs.Prelude.{◌≡◌, Some, is_some, slice_get};
 ghost use Rattle.journal_rules.specs.Documents.{IsMade, name as name_lem, text as text_lem, version as version_lem};
+ghost use Rattle.journal_rules.specs.Mail.{mail};
 ghost use Rattle.journal_rules.specs.Tracking.{cells};
 ghost use Rattle.ranges_tracker.specs.Shown.{shown};
 ghost use Rattle.book.specs.Standing.{IsDocument};
@@ -56,5 +57,12 @@ impl Book {
         ensures { result ≡ version_lem doc self.now.journal }
     {
         self.document(doc).window.version()
+    }
+
+    /// Whether a client has mail: a message that it was told, and that it didn't get yet.
+    pub fn has_mail(&self, client: u32) -> bool
+        ensures { result ≡ is_some (slice_get (mail client self.now.journal) 0) }
+    {
+        self.rooms.next(client).is_some()
     }
 }

@@ -1,6 +1,6 @@
 -- The line that is written of a document at the end.
-use Rattle.std.specs.Prelude.{ℕ, List, [], ◌∷◌, map, codes, Option}
-use Rattle.serde_json.specs.Data.{Data, number, unsigned, array, object, Members, no_members}
+use Rattle.std.specs.Prelude.{ℕ, List, [], ◌∷◌, map, codes}
+use Rattle.serde_json.specs.Data.{Data, array, object, Members, no_members}
 use Rattle.serde_json.specs.View.{items_of}
 use Rattle.json_lines.specs.Object.{with_member, with_number, with_text, with_units}
 use Rattle.ranges_tracker.specs.declared.change.ChangeKind.{ChangeKind}
@@ -8,7 +8,7 @@ use Rattle.ranges_tracker.specs.declared.change.ChangeKind.TheVariants.{Inserted
 use Rattle.ranges_tracker.specs.declared.change.Change.{Change}
 use Rattle.ranges_tracker.specs.declared.comment.Comment.{Comment}
 use Rattle.report_text.specs.declared.document_end.DocEnd.{DocEnd}
-use Rattle.report_text.specs.Values.{numbers_data, with_numbers, with_optional}
+use Rattle.report_text.specs.Values.{with_numbers, with_optional}
 
 abbrev pub kind_name : ChangeKind → List ℕ
 kind_name Inserted = codes "ins"

@@ -1,14 +1,12 @@
 -- The line that is written of an entry. The members of an object stand here in the order in which they are put in; the object has them in byte order.
-use Rattle.std.specs.Prelude.{ℕ, List, [], ◌∷◌, map, codes, Option, Some, None}
+use Rattle.std.specs.Prelude.{ℕ, List, [], map, codes, Option, Some, None}
 use Rattle.serde_json.specs.Data.{Data, array, object, Members, no_members}
 use Rattle.serde_json.specs.View.{items_of}
-use Rattle.json_lines.specs.Object.{with_member, with_number, with_text, with_flag, with_units, line_of}
-use Rattle.ot_op.specs.declared.comp.Comp.{Comp}
+use Rattle.json_lines.specs.Object.{with_member, with_number, with_text, with_flag, with_units}
 use Rattle.ot_op.specs.declared.fault.FormFault.{FormFault}
 use Rattle.ot_op.specs.declared.fault.FormFault.TheVariants.{Form, Supplementary, TooLarge}
 use Rattle.ot_op.specs.Compose.{appended}
 use Rattle.ot_json.specs.Grammar.{operation_data}
-use Rattle.expiring_lock.specs.declared.refusal.Busy.{Busy}
 use Rattle.expiring_lock.specs.declared.refusal.Stale.{Stale}
 use Rattle.expiring_lock.specs.declared.refusal.Stale.TheVariants as stale
 use Rattle.history_queue.specs.declared.item.Item.{Item}

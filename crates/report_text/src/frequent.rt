@@ -1,7 +1,6 @@
 //! The lines of the entries that come most, written straight, without an object.
 
-ghost use Rattle.std.specs.Prelude.{◌≡◌, [], ◌∷◌, IfOk, OnOk};
-ghost use Rattle.json.specs.Token.{begin_object};
+ghost use Rattle.std.specs.Prelude.{◌≡◌, [], IfOk, OnOk};
 ghost use Rattle.json_lines.specs.Object.{line_of};
 ghost use Rattle.journal_entries.specs.declared.act.Act.{Act};
 ghost use Rattle.journal_entries.specs.declared.update.Outcome.{Outcome};
@@ -10,20 +9,11 @@ ghost use Rattle.report_text.specs.Entries.{entry_members};
 ghost use Rattle.report_text.specs.Sent.{sent_back, sent_front};
 
 use crate::heading::Heading;
-use crate::members::{put_name, put_op, put_optional, put_sources};
+use crate::members::{begin_line, put_name, put_op, put_optional, put_sources};
 use journal_entries::Update;
 use line_writer::LineWriter;
 use ot_op::Op;
 use std::alloc::{AllocError, Global};
-
-/// A line has room for so many bytes before more memory is taken.
-const USUAL_LENGTH: usize = 240;
-
-fn begin_line(alloc: Global) -> Result<LineWriter, AllocError>
-    ensures { IfOk result (λ line. (line.before ≡ []) × (line.tokens ≡ begin_object ∷ [])) }
-{
-    LineWriter::begin(Vec::with_capacity(alloc, USUAL_LENGTH)?)
-}
 
 /// The line of an update that was sent.
 pub(crate) fn sent_line(

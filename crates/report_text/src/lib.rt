@@ -2,6 +2,7 @@
 #![tactic(auto)]
 
 mod act;
+mod client_end;
 mod document_end;
 mod entry;
 mod frequent;
@@ -9,8 +10,11 @@ mod heading;
 mod item;
 mod members;
 mod outcome;
+mod project_end;
 mod values;
 mod why;
 
+pub use client_end::{ClientEnd, EndState, client_line};
 pub use document_end::{DocEnd, doc_line};
 pub use entry::entry_line;
+pub use project_end::{ProjectEnd, project_line};

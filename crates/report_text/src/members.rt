@@ -1,7 +1,8 @@
 //! Members that several lines have, written straight into a line. The lines' members are put in byte
 //! order of their keys.
 
-ghost use Rattle.std.specs.Prelude.{codes, map, OnOk};
+ghost use Rattle.std.specs.Prelude.{◌≡◌, [], ◌∷◌, codes, map, IfOk, OnOk};
+ghost use Rattle.json.specs.Token.{begin_object};
 ghost use Rattle.serde_json.specs.Data.{item, member, no_members, number, object, string, unsigned};
 ghost use Rattle.json_lines.specs.Object.{optional, units_data};
 ghost use Rattle.ot_json.specs.Grammar.{component_data, operation_data};
@@ -13,6 +14,16 @@ use line_writer::LineWriter;
 use ot_op::{Comp, Op};
 use ot_units::{Name, Units};
 use std::alloc::{AllocError, Global};
+
+/// A line has room for so many bytes before more memory is taken.
+const USUAL_LENGTH: usize = 240;
+
+/// A line with no members yet.
+pub(crate) fn begin_line(alloc: Global) -> Result<LineWriter, AllocError>
+    ensures { IfOk result (λ line. (line.before ≡ []) × (line.tokens ≡ begin_object ∷ [])) }
+{
+    LineWriter::begin(Vec::with_capacity(alloc, USUAL_LENGTH)?)
+}
 
 /// Puts a whole number of 32 bits in, or `null` where there is none.
 pub(crate) fn put_optional(

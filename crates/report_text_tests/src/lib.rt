@@ -1,4 +1,4 @@
-//! A line for each kind of entry, and for a document. The tests stand in a crate of their own, so that
+//! A line for each kind of entry, and for documents, clients and projects. The tests stand in a crate of their own, so that
 //! `report_text` isn't proved again for them.
 #![tactic(auto)]
 

@@ -1,4 +1,5 @@
-//! The lines of entries of each kind, and of documents. `'` stands for a quotation mark.
+//! The lines of entries of each kind, and of documents, clients and projects. `'` stands for a
+//! quotation mark.
 
 use expiring_lock::{Busy, Stale};
 use history_queue::Item;
@@ -6,7 +7,9 @@ use journal_entries::{Act, Brief, Cause, Entry, Outcome, Sources, Update, Why};
 use ot_op::{Comp, FormFault, Op};
 use ot_units::{Name, Units};
 use ranges_tracker::{Change, ChangeKind, Comment, Ranges};
-use report_text::{DocEnd, doc_line, entry_line};
+use report_text::{
+    ClientEnd, DocEnd, EndState, ProjectEnd, client_line, doc_line, entry_line, project_line,
+};
 use std::alloc::Global;
 use std::test::Fail;
 
@@ -430,5 +433,116 @@ fn writes_documents(rt: HostRuntime) -> Result<(), Fail> {
         "{'b':1,'changes':[{'at':68,'id':[1,2],'kind':'ins','ms':0,'text':'record','user':'ben'},{'at':74,'id':[1,1],'kind':'del','ms':9,'text':'measure','user':'ben'}],'comments':[{'at':58,'t':1,'text':'Intro'}],'doc':0,'e':'doc','kept':4,'name':'main','text':'a\\nb','v':5}\n";
     let want = want.replace(alloc, "'", "\"")?;
     assert_eq!(rt; doc_line(alloc, &end)?.as_slice(), want.as_str().as_bytes());
+    Ok(())
+}
+
+// The line of a client named `c`, whose operations put texts in at place 1. The numbers are those of
+// its board, its own, that of its document, and its version.
+fn line_of_client(
+    alloc: Global,
+    numbers: (u32, u32, u32, u64),
+    state: EndState,
+    flight: Option<&str>,
+    pending: &str,
+    text: Option<&str>,
+) -> Result<Vec<u8>, Fail> {
+    let (b, client, doc, v) = numbers;
+    let flight = match flight {
+        Some(text) => Some(insert(alloc, 1, text)?),
+        None => None,
+    };
+    let text = match text {
+        Some(text) => Some(Units::sanitized(alloc, text)?),
+        None => None,
+    };
+    let end = ClientEnd {
+        b,
+        client,
+        doc,
+        flight,
+        name: name(alloc, "c")?,
+        pending: insert(alloc, 1, pending)?,
+        state,
+        text,
+        v,
+    };
+    Ok(client_line(alloc, &end)?)
+}
+
+#[test]
+fn writes_clients(rt: HostRuntime) -> Result<(), Fail> {
+    let alloc = rt.alloc();
+    let rows = [
+        (
+            (0, 0, 0, 2),
+            EndState::Joined,
+            None,
+            "",
+            Some("aXc"),
+            "{'b':0,'client':0,'doc':0,'e':'client','flight':null,'name':'c','pending':[],'state':'joined','text':'aXc','v':2}\n",
+        ),
+        (
+            (1, 2, 3, 4),
+            EndState::Left,
+            Some("X"),
+            "Y",
+            Some(""),
+            "{'b':1,'client':2,'doc':3,'e':'client','flight':[{'i':'X','p':1}],'name':'c','pending':[{'i':'Y','p':1}],'state':'left','text':'','v':4}\n",
+        ),
+        (
+            (0, 7, 0, 5),
+            EndState::Joined,
+            Some(""),
+            "Z",
+            Some("a\tb"),
+            "{'b':0,'client':7,'doc':0,'e':'client','flight':[],'name':'c','pending':[{'i':'Z','p':1}],'state':'joined','text':'a\\tb','v':5}\n",
+        ),
+        (
+            (0, 1, 0, 0),
+            EndState::Stale,
+            Some("X"),
+            "",
+            None,
+            "{'b':0,'client':1,'doc':0,'e':'client','flight':[{'i':'X','p':1}],'name':'c','pending':[],'state':'stale','text':null,'v':0}\n",
+        ),
+    ];
+    for (numbers, state, flight, pending, text, want) in rows {
+        let line = line_of_client(alloc, numbers, state, flight, pending, text)?;
+        let want = want.replace(alloc, "'", "\"")?;
+        assert_eq!(rt; line.as_slice(), want.as_str().as_bytes());
+    }
+    Ok(())
+}
+
+#[test]
+fn writes_projects(rt: HostRuntime) -> Result<(), Fail> {
+    let alloc = rt.alloc();
+    let rows = [
+        (
+            0,
+            0,
+            1,
+            "{'b':0,'e':'project','handed':0,'left':1,'project':'p'}\n",
+        ),
+        (
+            1,
+            205,
+            100,
+            "{'b':1,'e':'project','handed':205,'left':100,'project':'p'}\n",
+        ),
+    ];
+    for (b, handed, left, want) in rows {
+        let end = ProjectEnd {
+            b,
+            handed,
+            left,
+            project: name(alloc, "p")?,
+        };
+        let want = want.replace(alloc, "'", "\"")?;
+        assert_eq!(rt;
+            project_line(alloc, &end)?.as_slice(),
+            want.as_str().as_bytes()
+        );
+    }
     Ok(())
 }

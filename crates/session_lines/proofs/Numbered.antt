@@ -202,9 +202,12 @@ cut_bytes (x ∷ xs) =
 numbered : (bytes : List ℕ) (s : Script) → script_of bytes ≡ Ok s → IsNumbered (0 + MAX_TICK * bytes_of (lines_of bytes)) s
 numbered bytes s is = subst (λ (r : Result Script ScriptFault). IfOk r (IsNumbered (0 + MAX_TICK * bytes_of (lines_of bytes)))) is (lines_numbered 0 1 (lines_of bytes) (script [] []) (record { count = refl; by = refl; slow = omega arith }))
 
--- what a script that was read promises of its sessions and of its ticks
+-- what a script that was read promises of its sessions, of their names and of its ticks
 pub read_by : (bytes : List ℕ) (s : Script) → script_of bytes ≡ Ok s → AreBySessions s.sessions s.lines
 read_by bytes s is = let good = numbered bytes s is in subst (λ (n : ℕ). AreBySessions n s.lines) (sym good.count) good.by
+
+pub read_named : (bytes : List ℕ) (s : Script) → script_of bytes ≡ Ok s → length s.names ≡ s.sessions
+read_named bytes s is = sym (numbered bytes s is).count
 
 pub read_slow : (bytes : List ℕ) (s : Script) → script_of bytes ≡ Ok s → AreSlow (length bytes) s.lines
 read_slow bytes s is = let good = (numbered bytes s is).slow in let cut = cut_bytes bytes in omega (arith, good, cut)

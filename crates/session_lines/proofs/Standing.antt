@@ -1,6 +1,6 @@
 -- The lines of a script that was read stand: each is within its limits, and may stand behind those before it.
-use Rattle.std.proofs.Common.{◌≡◌, ℕ, ◌+◌, ◌≤◌, List, [], ◌∷◌, ◌++◌, Bool, true, false, refl, sym, ap, subst, arith, length, append-nil, append_assoc, length-append}
-use Rattle.std.specs.Prelude.{Option, Some, None, Result, Ok, Err, IfOk, ◌==◌, nat_le, codes, if◌then◌else◌}
+use Rattle.std.proofs.Common.{◌≡◌, ◌≢◌, ℕ, zero, suc, ◌+◌, ◌<◌, ◌≤◌, List, [], ◌∷◌, ◌++◌, Bool, true, false, refl, sym, ap, subst, arith, length, append-nil, append_assoc, length-append}
+use Rattle.std.specs.Prelude.{Option, Some, None, option_map, Result, Ok, Err, IfOk, ◌==◌, nat_le, codes, if◌then◌else◌}
 use Rattle.std.specs.Option.{option_and_then}
 use Rattle.std.proofs.lemmas.Bool.{leb-true}
 use Rattle.serde_json.specs.Data.{Data}
@@ -52,9 +52,21 @@ raw_within s d =
     given_then IsWithin _ (flag_or_false (codes "track") d) (λ track. given_then IsWithin _ (name_at (codes "doc") d) (λ doc. given_then IsWithin _ (name_at (codes "user") d) (λ user.
     given_then IsWithin _ (sources_or_none (codes "dup") d) (λ dup. given_then IsWithin _ (get (codes "op") d) (λ op. (low, raw_given op))))))))
 
-del_within : (s p n : ℕ) (b : Bool) → IfGiven IsWithin (if b then None else Some (Del s p n))
-del_within s p n true = tt
-del_within s p n false = tt
+del_within : (s p n : ℕ) (b : Bool) → (n == 0) ≡ b → IfGiven IsWithin (if b then None else Some (Del s p n))
+del_within s p n true is = tt
+del_within s p n false is = some n is
+  where
+    some : (n : ℕ) → (n == 0) ≡ false → 0 < n
+    some zero is = absurd (cc)
+    some (suc n) is = omega arith
+
+solid_given : (us : List ℕ) → IfGiven (λ (t : List ℕ). t ≢ []) (solid us)
+solid_given [] = tt
+solid_given (u ∷ us) = λ is. absurd (cc)
+
+ins_within : (s p : ℕ) (o : Option (List ℕ)) → IfGiven (λ (t : List ℕ). t ≢ []) o → IfGiven IsWithin (option_map (λ (text : List ℕ). Ins s p text) o)
+ins_within s p None given = tt
+ins_within s p (Some text) given = given
 
 action_within : (action : Action) (s : ℕ) (d : Data) → IfGiven IsWithin (action_line action s d)
 action_within DoTick s d = given_map IsWithin (λ (ms : ℕ). Tick s ms) (whole_at MAX_TICK (codes "ms") d) (λ ms. tt)
@@ -67,8 +79,8 @@ action_within DoResend s d = tt
 action_within DoRecv s d = tt
 action_within DoSync s d = tt
 action_within DoFinish s d = tt
-action_within DoIns s d = given_then IsWithin _ (u32_at (codes "p") d) (λ p. given_map IsWithin (λ (text : List ℕ). Ins s p text) (option_and_then solid (units_at (codes "s") d)) (λ text. tt))
-action_within DoDel s d = given_then IsWithin _ (u32_at (codes "p") d) (λ p. given_then IsWithin _ (u32_at (codes "n") d) (λ n. del_within s p n (n == 0)))
+action_within DoIns s d = given_then IsWithin _ (u32_at (codes "p") d) (λ p. ins_within s p (option_and_then solid (units_at (codes "s") d)) (given_then (λ (t : List ℕ). t ≢ []) solid (units_at (codes "s") d) solid_given))
+action_within DoDel s d = given_then IsWithin _ (u32_at (codes "p") d) (λ p. given_then IsWithin _ (u32_at (codes "n") d) (λ n. del_within s p n (n == 0) refl))
 action_within DoCom s d = given_then IsWithin _ (u32_at (codes "p") d) (λ p. given_then IsWithin _ (u32_at (codes "n") d) (λ n. given_map IsWithin (λ (t : ℕ). Com s p n t) (u32_at (codes "t") d) (λ t. tt)))
 action_within DoDrain s d = given_map IsWithin (λ (doc : List ℕ). Drain s doc) (name_at (codes "doc") d) (λ doc. tt)
 action_within DoHold s d = given_map IsWithin (λ (doc : List ℕ). Hold s doc) (name_at (codes "doc") d) (λ doc. tt)

@@ -1,18 +1,20 @@
 -- What is known of the lines of a script that was read.
-use Rattle.std.specs.Prelude.{◌≡◌, ◌≤◌, ℕ, ◌+◌, ◌*◌, nat_lt, Bool, true, List, [], ◌∷◌, ◌++◌, length, sum_by, Option, Some, None, IfOk, ⊤}
+use Rattle.std.specs.Prelude.{◌≡◌, ◌≢◌, ◌<◌, ◌≤◌, ℕ, ◌+◌, ◌*◌, nat_lt, Bool, true, List, [], ◌∷◌, ◌++◌, length, sum_by, Option, Some, None, IfOk, ⊤}
 use Rattle.std.specs.List.{list_all}
 use Rattle.ot_json.specs.Grammar.{IsWithinLimits}
 use Rattle.session_lines.specs.Script.{may_follow, session_of}
 use Rattle.session_lines.specs.declared.line.Line.{Line}
-use Rattle.session_lines.specs.declared.line.Line.TheVariants.{Doc, Tick, Raw}
+use Rattle.session_lines.specs.declared.line.Line.TheVariants.{Doc, Tick, Raw, Ins, Del}
 use Rattle.ot_op.specs.declared.limits.TheConstants.{MAX_TEXT_UNITS}
 use Rattle.journal_entries.specs.declared.limits.TheConstants.{MAX_BASE, MAX_RAW_SOURCE}
 use Rattle.session_lines.specs.declared.limits.TheConstants.{MAX_TICK}
 
--- the texts, numbers and operations of a line are within their limits
+-- the texts, numbers and operations of a line are within their limits, and no insert or delete is empty
 abbrev pub IsWithin : Line → Type 0
 IsWithin (Doc doc project text v) = (length text ≤ MAX_TEXT_UNITS) × (v ≤ MAX_BASE)
 IsWithin (Raw session doc user source dup track v op) = (source ≤ MAX_RAW_SOURCE) × IfOk op IsWithinLimits
+IsWithin (Ins session p text) = text ≢ []
+IsWithin (Del session p n) = 0 < n
 IsWithin _ = ⊤
 
 -- each line is within its limits, and may stand behind those before it

@@ -29,6 +29,7 @@ pub fn read_script(alloc: Global, bytes: &[u8]) -> Result<Script, ScriptFault>
     ensures ok { IfOk result (λ read. script_of bytes.now ≡ Ok read) }
     ensures standing { IfOk result (λ read. AreStanding [] read.lines) }
     ensures numbered { IfOk result (λ read. AreBySessions read.sessions read.lines) }
+    ensures named { IfOk result (λ read. length read.names ≡ read.sessions) }
     ensures slow { IfOk result (λ read. AreSlow (length bytes.now) read.lines) }
     ensures short { IfOk result (λ read. length read.lines ≤ length bytes.now) }
     ensures fault { IfErr result (λ e. e ≢ ScriptFault.Memory → script_of bytes.now ≡ Err e) }

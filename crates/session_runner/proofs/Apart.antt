@@ -5,14 +5,16 @@ use Rattle.std.proofs.lemmas.Bool.{leb-true}
 use Rattle.std.proofs.lemmas.Bool.Decides.{nat_tests}
 use Rattle.std.proofs.lemmas.List.Elements.{All-append, All-nil, All-cons, All-weaker}
 use Rattle.journal_entries.specs.declared.act.Act.{Act}
-use Rattle.journal_entries.specs.declared.act.Act.TheVariants.{Made, Ticked, Joined as JoinedAct, Acquired, Loaded, LoadFailed, LoadDiffers, Committed, Released, Unloaded, Closed}
+use Rattle.journal_entries.specs.declared.act.Act.TheVariants.{Made, Ticked, Joined as JoinedAct, Edited, Sent, Got, Left as LeftAct, Acquired, Loaded, LoadFailed, LoadDiffers, Committed, Released, Unloaded, Closed}
 use Rattle.journal_entries.specs.declared.act.Entry.{Entry}
 use Rattle.journal_rules.specs.Documents.{is_in, makings, making_of}
 use Rattle.journal_rules.specs.Keeping.{cached, cached_by}
 use Rattle.journal_rules.specs.Legal.{closed, closed_by}
 use Rattle.journal_rules.specs.Locks.{acquirings, acquiring_of, clock, next_token, ticked, used_by}
 use Rattle.journal_rules.proofs.Pushing.{acquirings-push, closed-push, clock-push, makings-push}
-use Rattle.ending_rules.specs.Rounds.{joins_below}
+use Rattle.journal_rules.specs.Client.{client}
+use Rattle.session_runner.specs.Clients.{StayAll, is_of_none}
+use Rattle.session_runner.proofs.Clients.{one_stays}
 use Rattle.ending_rules.proofs.Apart.{all_first, all_later}
 use Rattle.turn_rules.specs.Draining.{Caches, DrainsOne, IsLoad, IsWhole}
 use Rattle.turn_rules.specs.Locking.{acquired}
@@ -30,9 +32,13 @@ pub ticks_not : (from : ℕ) (a : Act) (now : ℕ) → is_apart from a ≡ true 
 ticks_not from (Ticked ms) now e = absurd (true≢false (sym e))
 ticks_not from _ now e = refl
 
-pub joins_none : (from : ℕ) (a : Act) → is_apart from a ≡ true → joins_below 0 a ≡ true
-joins_none from (JoinedAct session doc user track since source v) e = absurd (true≢false (sym e))
-joins_none from _ e = refl
+pub of_none : (from : ℕ) (a : Act) → is_apart from a ≡ true → is_of_none a ≡ true
+of_none from (JoinedAct session doc user track since source v) e = absurd (true≢false (sym e))
+of_none from (Edited session comp) e = absurd (true≢false (sym e))
+of_none from (Sent u) e = e
+of_none from (Got session brief) e = absurd (true≢false (sym e))
+of_none from (LeftAct session) e = absurd (true≢false (sym e))
+of_none from _ e = refl
 
 pub closes_none : (from : ℕ) (a : Act) → is_apart from a ≡ true → closed_by a ≡ []
 closes_none from (Closed driver) e = absurd (true≢false (sym e))
@@ -75,9 +81,8 @@ module _ (from : ℕ) (left last : List Entry) (g : GoesApart from left last) wh
   pub same_closed : closed last ≡ closed left
   same_closed = stays from (λ j. closed j ≡ closed left) (λ j e apart same. closed-push j e ∙ ap (λ ds. closed j ++ ds) (closes_none from e.act apart.apart) ∙ append-nil (closed j) ∙ same) left last g refl
 
-  pub same_joined : All (λ e. joins_below 0 e.act ≡ true) left → All (λ e. joins_below 0 e.act ≡ true) last
-  same_joined all = stays from (λ j. All (λ e. joins_below 0 e.act ≡ true) j)
-      (λ j e apart all. All-append (λ (e : Entry). joins_below 0 e.act ≡ true) j (e ∷ []) all (All-cons (λ (e : Entry). joins_below 0 e.act ≡ true) e [] (joins_none from e.act apart.apart) (All-nil (λ (e : Entry). joins_below 0 e.act ≡ true)))) left last g all
+  pub same_clients : StayAll left last
+  same_clients c = stays from (λ j. client c j ≡ client c left) (λ j e apart same. one_stays j e (of_none from e.act apart.apart) c ∙ same) left last g refl
 
   pub more_tokens : length (acquirings left) ≤ length (acquirings last)
   more_tokens = stays from (λ j. length (acquirings left) ≤ length (acquirings j))
@@ -98,6 +103,10 @@ later : (from low : ℕ) (a : Act) → low ≤ from → is_apart from a ≡ true
 later from low (Made doc name project first base) le e = e
 later from low (Ticked ms) le e = e
 later from low (JoinedAct session doc user track since source v) le e = e
+later from low (Edited session comp) le e = e
+later from low (Sent u) le e = e
+later from low (Got session brief) le e = e
+later from low (LeftAct session) le e = e
 later from low (Committed doc token ticket outcome) le e = let is : from ≤ token = leb-true from token e in grind (arith, nat_tests)
 later from low (Unloaded doc token) le e = e
 later from low (Closed driver) le e = e

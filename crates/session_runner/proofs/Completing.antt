@@ -7,9 +7,10 @@ use Rattle.source_sink.specs.declared.read.TheConstants.{INPUT_LIMIT}
 use Rattle.session_runner.specs.declared.ending.Ending.{Ending}
 use Rattle.session_runner.specs.declared.ending.Ending.TheVariants as ending
 use Rattle.session_runner.specs.declared.ending.LineFault.{LineFault}
-use Rattle.session_runner.specs.Ending.{AreRun, Explains, IsPart, IsTold, IsTextTold, IsWriting, WasLong, WasWhole, line_fault, status_of, text_of}
+use Rattle.session_runner.specs.Report.{report_of}
+use Rattle.session_runner.specs.Ending.{AreRun, CanBeTold, Explains, IsPart, IsTold, IsTextTold, IsWriting, WasLong, WasWhole, line_fault, status_of, text_of}
 use Rattle.session_runner.specs.Passing.{MayFail, Passed}
-use Rattle.session_runner.specs.Run.{Answers, Completes, IsCutShort, IsEither, IsEitherRead, IsQuietRun, IsToWrite, IsWanting}
+use Rattle.session_runner.specs.Run.{Answers, Completes, IsCutShort, IsDone, IsEither, IsEitherRead, IsQuietRun, IsToWrite, IsWanting}
 use Rattle.session_runner.proofs.Lists.{same_item}
 
 -- a text that was told as an ending's own
@@ -134,7 +135,7 @@ module _ (words : List (String Global)) (input out : Passed) (status : ℕ) wher
   to_write ending.Long writes why = inr (inr (inl (why.0, why.1, refl)))
   to_write ending.Memory writes why = absurd writes
   to_write (ending.Script fault) writes why = inr (inr (inr (inl (why.0, (why.1.0, fault, why.1.1, why.1.2, refl)))))
-  to_write (ending.Done book) writes why = inr (inr (inr (inr (why.0, (why.1.0, book.journal, why.1.1, why.1.2, refl)))))
+  to_write (ending.Done run) writes why = inr (inr (inr (inr (why.0, (why.1.0, run.book.journal, why.1.1, why.1.2, ap (λ n. report_of n run.book.journal) why.1.3.names_are)))))
 
   no_six : (end : Ending) → status_of end ≡ 6 → ⊥
   no_six ending.Words e = omega (arith, e)
@@ -156,7 +157,7 @@ module _ (words : List (String Global)) (input out : Passed) (status : ℕ) wher
   memory_wanting ending.Long why (inr (inr t)) four = absurd t.1
   memory_wanting ending.Memory why (inr (inr t)) four = (why.0, inl t.2)
   memory_wanting (ending.Script fault) why (inr (inr t)) four = (why.0, inl t.2)
-  memory_wanting (ending.Done book) why (inr (inr t)) four = (why.0, inr (why.1.0, book.journal, why.1.1, why.1.2, t.2))
+  memory_wanting (ending.Done run) why (inr (inr t)) four = (why.0, inr (why.1.0, run.book.journal, why.1.1, why.1.2, subst (λ n. IsPart out (report_of n run.book.journal)) why.1.3.names_are t.2))
   memory_wanting ending.Memory why (inl t) four = (why.0, inl t.1)
   memory_wanting ending.Words why (inl t) four = let own = t.0 in absurd (omega (arith, own, four))
   memory_wanting ending.Read why (inl t) four = let own = t.0 in absurd (omega (arith, own, four))
@@ -173,3 +174,23 @@ module _ (words : List (String Global)) (input out : Passed) (status : ℕ) wher
   other_words ending.Memory why t other = absurd (other why.0)
   other_words (ending.Script fault) why t other = absurd (other why.0)
   other_words (ending.Done book) why t other = absurd (other why.0)
+
+  -- ---- status 0
+  pub done : (end : Ending) → Explains words input end → IsTold out end status → status ≡ 0 → IsDone words input out
+  done end why (inr (inl t)) zero_is = let six = t.0 in absurd (omega (arith, six, zero_is))
+  done end why (inr (inr t)) zero_is = let four = t.0 in absurd (omega (arith, four, zero_is))
+  done ending.Words why (inl t) zero_is = let own = t.0 in absurd (omega (arith, own, zero_is))
+  done ending.Read why (inl t) zero_is = let own = t.0 in absurd (omega (arith, own, zero_is))
+  done ending.Long why (inl t) zero_is = let own = t.0 in absurd (omega (arith, own, zero_is))
+  done ending.Memory why (inl t) zero_is = let own = t.0 in absurd (omega (arith, own, zero_is))
+  done (ending.Script fault) why (inl t) zero_is = let own = t.0 in absurd (omega (arith, own, zero_is))
+  done (ending.Done run) why (inl t) zero_is = (why.0, (why.1.0, run.book.journal, why.1.1, why.1.2, subst (λ n. Appends out.before out.after (report_of n run.book.journal)) why.1.3.names_are t.1))
+
+-- ---- what telling asks
+pub can_be_told : (words : List (String Global)) (input : Passed) (end : Ending) → Explains words input end → CanBeTold end
+can_be_told words input ending.Words why = tt
+can_be_told words input ending.Read why = tt
+can_be_told words input ending.Long why = tt
+can_be_told words input ending.Memory why = tt
+can_be_told words input (ending.Script fault) why = tt
+can_be_told words input (ending.Done run) why = let ready = why.1.3 in (ready.clients, ready.many, ready.few)

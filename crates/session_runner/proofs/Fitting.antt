@@ -14,7 +14,7 @@ use Rattle.session_lines.specs.Names.{same_name}
 use Rattle.session_lines.specs.Script.{documents_of, makes_document, may_make, may_join, may_follow}
 use Rattle.session_lines.specs.Standing.{AreSlow, AreStanding, IsWithin, moved_by}
 use Rattle.session_lines.specs.declared.line.Line.{Line}
-use Rattle.session_lines.specs.declared.line.Line.TheVariants.{Doc, Raw}
+use Rattle.session_lines.specs.declared.line.Line.TheVariants.{Doc, Raw, Ins, Del}
 use Rattle.session_runner.specs.Ending.{first_unbuilt}
 use Rattle.session_runner.specs.Fitting.{AreBuilt, AreFit, IsFit, is_built, makings_by}
 
@@ -65,6 +65,8 @@ is_fit ls (Doc doc project text v) within may =
       within.1,
     )
 is_fit ls (Raw session doc user source dup track v op) within may = (within.0, raw_fit op within.1)
+is_fit ls (Ins session p text) within may = within
+is_fit ls (Del session p n) within may = within
 is_fit ls _ within may = tt
 
 makings_push : (ms : List Making) (ls : List Line) (l : Line) → all_makings ms (ls ++ l ∷ []) ≡ makings_by (all_makings ms ls) l

@@ -1,12 +1,17 @@
 pub mod Lists
 pub mod Words
 pub mod Writing
+pub mod Clients
 pub mod Apart
 pub mod Draining
 pub mod Taking
 pub mod Holding
+pub mod Quiet
+pub mod Getting
+pub mod Owning
 pub mod Lines
 pub mod Finishing
 pub mod Fitting
+pub mod Catching
 pub mod Rounding
 pub mod Completing

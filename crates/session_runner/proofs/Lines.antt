@@ -31,10 +31,17 @@ use Rattle.book.specs.Shown.{Shown, adds}
 use Rattle.book.specs.declared.faults.Prepared.{Prepared}
 use Rattle.book.specs.declared.faults.RawUpdate.{RawUpdate}
 use Rattle.session_runner.specs.declared.driver.Driver.{Driver}
-use Rattle.session_runner.specs.Apart.{GoesApart, IsApart, IsBehind, IsUnjoined, is_apart}
+use Rattle.session_runner.specs.Apart.{GoesApart, IsApart, IsBehind, is_apart}
+use Rattle.session_runner.specs.Clients.{AreClientsOf, GoesQuietly, is_of_none}
+use Rattle.session_runner.specs.Syncing.{GoesApartThenQuietly}
+use Rattle.session_runner.proofs.Clients.{all_stay, one_stays}
+use Rattle.session_runner.proofs.Quiet.{quiet_clock, quiet_closed, quiet_makings}
+use Rattle.share_client.specs.Clients.{Numbered}
+use Rattle.journal_rules.specs.Client.{away, client}
+use Rattle.journal_rules.proofs.Pushing.{client-none}
 use Rattle.session_runner.specs.Fitting.{makings_by}
 use Rattle.session_runner.specs.Holding.{AreHeld, IsDriver, kept, kept_in}
-use Rattle.session_runner.proofs.Apart.{same_clock, same_closed, same_if, same_joined, same_makings, wrote}
+use Rattle.session_runner.proofs.Apart.{same_clients, same_clock, same_closed, same_if, same_makings, wrote}
 use Rattle.session_runner.proofs.Holding.{behind_apart, behind_one}
 
 -- what holds where a call was done holds so
@@ -102,21 +109,27 @@ drains_named by session doc name first mid last stop named some drains is =
 
 -- ---- a book with one entry more
 module _ (driver : Driver) (new : Shown) (line : Option ℕ) where
-  pub added : (act : Act) → ((d : ℕ) → cached_by d act true ≡ true) → ((t : ℕ) → is_in t (used_by act) ≡ false) → IsDriver driver → new ≡ adds driver.book 0 line (act ∷ []) → IsDriver (record { book = new; holds = driver.holds })
-  added act caches unused was is = record {
+  pub added : (act : Act) → is_of_none act ≡ true → ((d : ℕ) → cached_by d act true ≡ true) → ((t : ℕ) → is_in t (used_by act) ≡ false) → IsDriver driver → new ≡ adds driver.book 0 line (act ∷ []) → IsDriver (record driver { book = new })
+  added act of_none caches unused was is = record {
     alone = ap (λ (b : Shown). b.drivers) is ∙ was.alone;
     held = behind_one driver.holds.items driver.book.journal new.journal (entry_by 0 line act) (ap (λ (b : Shown). b.journal) is) refl caches unused was.held;
+    clients = subst (AreClientsOf driver.clients.items) (sym (ap (λ (b : Shown). b.journal) is)) (all_stay driver.clients.items driver.book.journal (driver.book.journal ++ entry_by 0 line act ∷ []) (one_stays driver.book.journal (entry_by 0 line act) of_none) was.clients);
+    many = was.many;
   }
 
-  pub declined : (session : ℕ) (why : Why) → IsDriver driver → new ≡ adds driver.book 0 line (Declined session why ∷ []) → IsDriver (record { book = new; holds = driver.holds })
-  declined session why = added (Declined session why) (λ d. refl) (λ t. refl)
+  pub declined : (session : ℕ) (why : Why) → IsDriver driver → new ≡ adds driver.book 0 line (Declined session why ∷ []) → IsDriver (record driver { book = new })
+  declined session why = added (Declined session why) refl (λ d. refl) (λ t. refl)
 
-  pub drained : new.drivers ≡ driver.book.drivers → GoesApart (next_token driver.book.journal) driver.book.journal new.journal → IsDriver driver → IsDriver (record { book = new; holds = driver.holds })
-  drained same g was = record { alone = same ∙ was.alone; held = behind_apart driver.holds.items driver.book.journal new.journal g was.held }
+  pub drained : new.drivers ≡ driver.book.drivers → GoesApart (next_token driver.book.journal) driver.book.journal new.journal → IsDriver driver → IsDriver (record driver { book = new })
+  drained same g was = record { alone = same ∙ was.alone; held = behind_apart driver.holds.items driver.book.journal new.journal g was.held; clients = all_stay driver.clients.items driver.book.journal new.journal (same_clients (next_token driver.book.journal) driver.book.journal new.journal g) was.clients; many = was.many }
 
 raw_caches : (op : Result (List Comp) FormFault) (now : ℕ) (u : RawUpdate) (d : ℕ) → cached_by d (raw_act_of op now u) true ≡ true
 raw_caches (Ok op) now u d = refl
 raw_caches (Err fault) now u d = refl
+
+raw_of_none : (op : Result (List Comp) FormFault) (now : ℕ) (u : RawUpdate) → is_of_none (raw_act_of op now u) ≡ true
+raw_of_none (Ok op) now u = refl
+raw_of_none (Err fault) now u = refl
 
 raw_uses : (op : Result (List Comp) FormFault) (now : ℕ) (u : RawUpdate) (t : ℕ) → is_in t (used_by (raw_act_of op now u)) ≡ false
 raw_uses (Ok op) now u t = refl
@@ -126,14 +139,14 @@ raw_apart : (op : Result (List Comp) FormFault) (now : ℕ) (u : RawUpdate) (fro
 raw_apart (Ok op) now u from = refl
 raw_apart (Err fault) now u from = refl
 
-pub sent : (driver : Driver) (new : Shown) (line : Option ℕ) (now : ℕ) (u : RawUpdate) → IsDriver driver → new ≡ adds driver.book 0 line (raw_act now u ∷ []) → IsDriver (record { book = new; holds = driver.holds })
-sent driver new line now u = added driver new line (raw_act now u) (raw_caches u.op now u) (raw_uses u.op now u)
+pub sent : (driver : Driver) (new : Shown) (line : Option ℕ) (now : ℕ) (u : RawUpdate) → IsDriver driver → new ≡ adds driver.book 0 line (raw_act now u ∷ []) → IsDriver (record driver { book = new })
+sent driver new line now u = added driver new line (raw_act now u) (raw_of_none u.op now u) (raw_caches u.op now u) (raw_uses u.op now u)
 
-pub made : (driver : Driver) (new : Shown) (line : Option ℕ) (doc : ℕ) (name project first : List ℕ) (base : ℕ) → IsDriver driver → new ≡ adds driver.book 0 line (Made doc name project first base ∷ []) → IsDriver (record { book = new; holds = driver.holds })
-made driver new line doc name project first base = added driver new line (Made doc name project first base) (λ d. same_if (doc == d)) (λ t. refl)
+pub made : (driver : Driver) (new : Shown) (line : Option ℕ) (doc : ℕ) (name project first : List ℕ) (base : ℕ) → IsDriver driver → new ≡ adds driver.book 0 line (Made doc name project first base ∷ []) → IsDriver (record driver { book = new })
+made driver new line doc name project first base = added driver new line (Made doc name project first base) refl (λ d. same_if (doc == d)) (λ t. refl)
 
-pub ticked : (driver : Driver) (new : Shown) (line : Option ℕ) (ms : ℕ) → IsDriver driver → new ≡ adds driver.book 0 line (Ticked ms ∷ []) → IsDriver (record { book = new; holds = driver.holds })
-ticked driver new line ms = added driver new line (Ticked ms) (λ d. refl) (λ t. refl)
+pub ticked : (driver : Driver) (new : Shown) (line : Option ℕ) (ms : ℕ) → IsDriver driver → new ≡ adds driver.book 0 line (Ticked ms ∷ []) → IsDriver (record driver { book = new })
+ticked driver new line ms = added driver new line (Ticked ms) refl (λ d. refl) (λ t. refl)
 
 -- ---- behind a line
 pub apart_behind : (line : Line) (from : ℕ) (left last : List Entry) → ((ms : List Making) → makings_by ms line ≡ ms) → moved_by line ≡ 0 → GoesApart from left last → IsBehind line left last
@@ -143,11 +156,7 @@ apart_behind line from left last none still g =
       makings_are = same_makings from left last g ∙ sym (none (makings left));
       clock_is = let same : clock last ≡ clock left + moved_by line = omega (arith, c, still) in same;
       closed_is = same_closed from left last g;
-      unjoined = same_joined from left last g;
     }
-
-pub one_unjoined : (j : List Entry) (e : Entry) → joins_below 0 e.act ≡ true → IsUnjoined j → IsUnjoined (j ++ e ∷ [])
-one_unjoined j e is all = All-append (λ (x : Entry). joins_below 0 x.act ≡ true) j (e ∷ []) all (All-cons (λ (x : Entry). joins_below 0 x.act ≡ true) e [] is (All-nil (λ (x : Entry). joins_below 0 x.act ≡ true)))
 
 module _ (line : Option ℕ) (left last : List Entry) where
   pub behind_doc : (doc : ℕ) (name project first : List ℕ) (base : ℕ) → last ≡ left ++ entry_by 0 line (Made doc name project first base) ∷ [] → IsBehind (Doc name project first base) left last
@@ -158,7 +167,6 @@ module _ (line : Option ℕ) (left last : List Entry) where
         makings_are = ap makings is ∙ makings-push left e;
         clock_is = let same : clock last ≡ clock left + 0 = omega (arith, c) in same;
         closed_is = ap closed is ∙ closed-push left e ∙ append-nil (closed left);
-        unjoined = λ all. subst IsUnjoined (sym is) (one_unjoined left e refl all);
       }
 
   pub behind_tick : (session ms : ℕ) → last ≡ left ++ entry_by 0 line (Ticked ms) ∷ [] → IsBehind (Tick session ms) left last
@@ -168,7 +176,6 @@ module _ (line : Option ℕ) (left last : List Entry) where
         makings_are = ap makings is ∙ makings-push left e ∙ append-nil (makings left);
         clock_is = ap clock is ∙ clock-push left e;
         closed_is = ap closed is ∙ closed-push left e ∙ append-nil (closed left);
-        unjoined = λ all. subst IsUnjoined (sym is) (one_unjoined left e refl all);
       }
 
   pub apart_raw : (from now : ℕ) (u : RawUpdate) → last ≡ left ++ entry_by 0 line (raw_act now u) ∷ [] → GoesApart from left last
@@ -211,11 +218,33 @@ kept_none holds all = λ i s. each s (slice_get holds s) refl i
     each s None at = ap (option_and_then kept) at
     each s (Some o) at = ap (option_and_then kept) (at ∙ ap (λ x. Some x) (at_none holds all s o at))
 
-pub empty_driver : (driver : Driver) → driver.book ≡ record { journal = []; drivers = 0 } → All (λ k. k ≡ None) driver.holds.items → IsDriver driver
-empty_driver driver book all = record {
+pub empty_driver : (driver : Driver) → driver.book ≡ record { journal = []; drivers = 0 } → All (λ k. k ≡ None) driver.holds.items → ((c : ℕ) (x : Numbered) → slice_get driver.clients.items c ≡ Some x → x ≡ record { client = c; now = away }) → length driver.clients.items ≡ length driver.holds.items → IsDriver driver
+empty_driver driver book all aways many = record {
   alone = ap (λ (b : Shown). b.drivers) book;
   held = record {
     stands = λ session p at. let e = at_none driver.holds.items all session (Some p) at in absurd (cc);
     apart = λ one other p q differ at other_at. let e = at_none driver.holds.items all one (Some p) at in absurd (cc);
   };
+  clients = record { each = λ c x at. (let is = aways c x at in (ap (λ (y : Numbered). y.client) is, ap (λ (y : Numbered). y.now) is ∙ sym (ap (client x.client) (ap (λ (b : Shown). b.journal) book) ∙ client-none x.client))) };
+  many = many;
 }
+
+-- ---- a line of a session's client
+pub quiet_behind : (line : Line) (session : ℕ) (left last : List Entry) → ((ms : List Making) → makings_by ms line ≡ ms) → moved_by line ≡ 0 → GoesQuietly session left last → IsBehind line left last
+quiet_behind line session left last none still g =
+    let c = quiet_clock session left last g in
+    record {
+      makings_are = quiet_makings session left last g ∙ sym (none (makings left));
+      clock_is = let same : clock last ≡ clock left + moved_by line = omega (arith, c, still) in same;
+      closed_is = quiet_closed session left last g;
+    }
+
+pub synced_behind : (line : Line) (from session : ℕ) (left last : List Entry) → ((ms : List Making) → makings_by ms line ≡ ms) → moved_by line ≡ 0 → GoesApartThenQuietly from session left last → IsBehind line left last
+synced_behind line from session left last none still g =
+    let a = same_clock from left g.mid g.apart in
+    let q = quiet_clock session g.mid last g.quiet in
+    record {
+      makings_are = quiet_makings session g.mid last g.quiet ∙ same_makings from left g.mid g.apart ∙ sym (none (makings left));
+      clock_is = let same : clock last ≡ clock left + moved_by line = omega (arith, a, q, still) in same;
+      closed_is = quiet_closed session g.mid last g.quiet ∙ same_closed from left g.mid g.apart;
+    }

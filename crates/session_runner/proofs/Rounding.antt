@@ -1,67 +1,33 @@
--- The rounds of a run that nobody joined: they are drains alone.
-use Rattle.std.proofs.Common.{◌≡◌, ◌≢◌, ◌⊎◌, ℕ, zero, suc, ◌+◌, ◌-◌, ◌<◌, ◌≤◌, List, [], ◌∷◌, ◌++◌, length, Bool, true, false, true≢false, ◌||◌, ◌&&◌, refl, sym, ap, ap₂, ◌∙◌, subst, inl, inr, arith, All}
-use Rattle.std.specs.Prelude.{Option, Some, None}
+-- The rounds at the end of a run.
+use Rattle.std.proofs.Common.{◌≡◌, ◌≢◌, ◌⊎◌, ℕ, zero, suc, ◌+◌, ◌-◌, ◌<◌, ◌≤◌, List, [], ◌∷◌, length, Bool, true, false, true≢false, ◌||◌, refl, sym, ap, ap₂, ◌∙◌, subst, inl, inr, arith}
+use Rattle.std.specs.Prelude.{None}
+use Rattle.journal_entries.specs.declared.act.Act.{Act}
+use Rattle.journal_entries.specs.declared.act.Act.TheVariants.{Acquired}
 use Rattle.journal_entries.specs.declared.act.Entry.{Entry}
-use Rattle.journal_rules.specs.declared.state.ClientState.{ClientState}
-use Rattle.journal_rules.specs.declared.state.ClientState.TheVariants.{Joined}
-use Rattle.journal_rules.specs.Client.{client, has_flight}
-use Rattle.journal_rules.specs.Documents.{makings, waiting}
+use Rattle.journal_rules.specs.Documents.{waiting}
 use Rattle.journal_rules.specs.Legal.{IsLegal}
-use Rattle.journal_rules.specs.Mail.{mail}
-use Rattle.ending_rules.specs.Rounds.{any_below, has_any, is_unfinished, needs_round}
-use Rattle.ending_rules.proofs.Clients.{below_clients}
-use Rattle.turn_rules.specs.Clients.{is_joined}
+use Rattle.ending_rules.specs.Rounds.{any_below, has_any, needs_round}
 use Rattle.turn_rules.specs.Turns.{entry_by}
-use Rattle.run_rules.specs.Ending.{CatchesUp, CatchesUpIf, DrainsDry, InOrder, IsRound, Rounds}
-use Rattle.session_runner.specs.Apart.{IsUnjoined}
-use Rattle.dispatcher.specs.Draining.{DrainsMany, Drained}
+use Rattle.run_rules.specs.Ending.{DrainsDry, InOrder, IsRound, Rounds}
+use Rattle.dispatcher.specs.Draining.{Drained}
 use Rattle.dispatcher.specs.declared.dispatch.DrainEnd.TheVariants.{Done}
 use Rattle.dispatcher.proofs.Draining.{drains_done}
+use Rattle.run_rules.specs.Counting.{is_taking}
+use Rattle.run_rules.proofs.Free.{still_not_busy}
+use Rattle.turn_rules.specs.Locking.{busy}
+use Rattle.session_runner.specs.Clients.{GoesQuietly, is_quiet}
 use Rattle.session_runner.proofs.Draining.{fewer}
-
--- ---- nobody catches up
-not_joined : (st : ClientState) → st ≢ Joined → is_joined st ≡ false
-not_joined Joined apart = absurd (apart refl)
-not_joined _ apart = refl
-
-away : (j : List Entry) → IsUnjoined j → (c : ℕ) → is_joined (client c j).state ≡ false
-away j all c = not_joined (client c j).state (below_clients 0 j all c (omega arith))
-
-none_unfinished : (j : List Entry) → IsUnjoined j → (c : ℕ) → is_unfinished c j ≡ false
-none_unfinished j all c = ap (λ b. b && (has_any (mail c j) || has_flight (client c j).flight || has_any (client c j).pending)) (away j all c)
-
-none_below : (p : ℕ → Bool) (n : ℕ) → ((k : ℕ) → p k ≡ false) → any_below p n ≡ false
-none_below p zero none = refl
-none_below p (suc n) none = ap₂ (λ (a b : Bool). a || b) (none_below p n none) (none n)
-
-or_false : (b : Bool) → (b || false) ≡ b
-or_false true = refl
-or_false false = refl
-
-abbrev pub some_waits : List Entry → Bool
-some_waits j = any_below (λ d. has_any (waiting d j)) (length (makings j))
-
--- a round is needed just where something waits
-pub needs_only : (sessions : ℕ) (j : List Entry) → IsUnjoined j → needs_round sessions j ≡ some_waits j
-needs_only sessions j all = ap (λ b. some_waits j || b) (none_below (λ c. is_unfinished c j) sessions (none_unfinished j all)) ∙ or_false (some_waits j)
-
-stays_away : (n : ℕ) (j : List Entry) → IsUnjoined j → InOrder CatchesUp n j j
-stays_away zero j all = refl
-stays_away (suc n) j all = (j, stays_away n j all, subst (λ b. CatchesUpIf b n j j) (sym (away j all n)) refl)
+use Rattle.session_runner.proofs.Quiet.{stays}
 
 -- ---- rounds
-pub ends_rounds : (sessions most : ℕ) (j : List Entry) → IsUnjoined j → some_waits j ≡ false → Rounds sessions most j j
-ends_rounds sessions zero j all none = refl
-ends_rounds sessions (suc most) j all none = inl (needs_only sessions j all ∙ none, refl)
+pub ends_rounds : (sessions most : ℕ) (j : List Entry) → needs_round sessions j ≡ false → Rounds sessions most j j
+ends_rounds sessions zero j none = refl
+ends_rounds sessions (suc most) j none = inl (none, refl)
 
-pub one_round : (sessions most : ℕ) (j mid last : List Entry) → IsUnjoined j → IsUnjoined mid → some_waits j ≡ true → InOrder DrainsDry (length (makings j)) j mid → Rounds sessions most mid last → Rounds sessions (suc most) j last
-one_round sessions most j mid last all all_mid some dry rest = inr (needs_only sessions j all ∙ some, (mid, (mid, dry, stays_away sessions mid all_mid), rest))
-
-pub one_round_of : (sessions n : ℕ) (j mid last : List Entry) → 0 < n → IsUnjoined j → IsUnjoined mid → some_waits j ≡ true → InOrder DrainsDry (length (makings j)) j mid → Rounds sessions (n - 1) mid last → Rounds sessions n j last
-one_round_of sessions zero j mid last some all all_mid waits dry rest = absurd (omega (arith, some))
-one_round_of sessions (suc n) j mid last some all all_mid waits dry rest =
-    let same : suc n - 1 ≡ n = omega arith in
-    one_round sessions n j mid last all all_mid waits dry (subst (λ (k : ℕ). Rounds sessions k mid last) same rest)
+pub one_round : (sessions n : ℕ) (j mid last : List Entry) → 0 < n → needs_round sessions j ≡ true → IsRound sessions j mid → Rounds sessions (n - 1) mid last → Rounds sessions n j last
+one_round sessions zero j mid last some need round rest = absurd (omega (arith, some))
+one_round sessions (suc n) j mid last some need round rest =
+    let same : suc n - 1 ≡ n = omega arith in inr (need, (mid, round, subst (λ (k : ℕ). Rounds sessions k mid last) same rest))
 
 pub no_rounds : (sessions n : ℕ) (j : List Entry) → n ≤ 0 → Rounds sessions n j j
 no_rounds sessions zero j le = refl
@@ -109,3 +75,11 @@ dry doc most count left last legal most_is d = (most, drains_done (entry_by 0 No
     none : Drained (entry_by 0 None) doc most left last (Done count) → waiting doc last ≡ []
     none (many, inl all) = let f = fewer None doc count left last legal many in is_empty (waiting doc last) (omega (arith, f, all, most_is))
     none (many, inr x) = x.1
+
+-- ---- entries of a client take no lock
+takes_none : (a : Act) → is_quiet a ≡ true → is_taking a ≡ false
+takes_none (Acquired doc token until) is = absurd (true≢false (sym is))
+takes_none _ is = refl
+
+pub quiet_free : (session : ℕ) (left last : List Entry) → GoesQuietly session left last → (d : ℕ) → busy d left ≡ None → busy d last ≡ None
+quiet_free session left last g d free = stays session (λ j. busy d j ≡ None) (λ j e is was. still_not_busy d j e (takes_none e.act is.quiet) was) left last g free

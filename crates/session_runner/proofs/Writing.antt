@@ -14,6 +14,7 @@ use Rattle.report_text.specs.Documents.{document_members}
 use Rattle.report_text.specs.Entries.{entry_members}
 use Rattle.ranges_tracker.specs.declared.change.Change.{Change}
 use Rattle.ranges_tracker.specs.declared.comment.Comment.{Comment}
+use Rattle.run_rules.specs.Report.{client_line, client_lines}
 use Rattle.session_runner.specs.Report.{document_end, document_line, document_lines, entry_lines, text_or_none}
 
 -- what is a part of a front is a part of the whole
@@ -76,3 +77,23 @@ regrouped start now held text front line more is d = subst (λ l. Delivered star
 
 pub regrouped_prefix : (start now : Option (List ℕ)) (held text front line more : List ℕ) → more ≡ front ++ line → DeliveredPrefix start now held ((text ++ front) ++ line) → DeliveredPrefix start now held (text ++ more)
 regrouped_prefix start now held text front line more is d = subst (λ l. DeliveredPrefix start now held l) (append_assoc text front line ∙ ap (λ l. text ++ l) (sym is)) d
+
+-- ---- the lines of clients
+client_lines-append : (c : ℕ) (xs ys : List (List ℕ)) (j : List Entry) → client_lines c (xs ++ ys) j ≡ client_lines c xs j ++ client_lines (c + length xs) ys j
+client_lines-append c [] ys j = ap (λ k. client_lines k ys j) (let z : c ≡ c + 0 = omega arith in z)
+client_lines-append c (x ∷ xs) ys j =
+    let same : c + 1 + length xs ≡ c + suc (length xs) = omega arith in
+    ap (λ l. client_line c x j ++ l) (client_lines-append (c + 1) xs ys j ∙ ap (λ k. client_lines (c + 1) xs j ++ client_lines k ys j) same)
+    ∙ sym (append_assoc (client_line c x j) (client_lines (c + 1) xs j) (client_lines (c + suc (length xs)) ys j))
+
+pub clients_more : (names : List (List ℕ)) (j : List Entry) (k : ℕ) (n : List ℕ) → k < length names → n ≡ get_or names k n → client_lines 0 (take (k + 1) names) j ≡ client_lines 0 (take k names) j ++ client_line k n j
+clients_more names j k n lt is =
+    let long : length (take k names) ≡ k = length-take-le k names (omega (arith, lt)) in
+    let at : 0 + length (take k names) ≡ k = omega (arith, long) in
+    ap (λ l. client_lines 0 l j) (take_more names k n lt ∙ ap (λ x. take k names ++ x ∷ []) (sym is))
+    ∙ client_lines-append 0 (take k names) (n ∷ []) j
+    ∙ ap (λ m. client_lines 0 (take k names) j ++ (client_line m n j ++ [])) at
+    ∙ ap (λ l. client_lines 0 (take k names) j ++ l) (append-nil (client_line k n j))
+
+pub clients_cut : (names : List (List ℕ)) (j : List Entry) (k : ℕ) → client_lines 0 (take k names) j ++ client_lines (0 + length (take k names)) (drop k names) j ≡ client_lines 0 names j
+clients_cut names j k = sym (client_lines-append 0 (take k names) (drop k names) j) ∙ ap (λ l. client_lines 0 l j) (take-append-drop k names)

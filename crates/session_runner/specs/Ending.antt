@@ -1,5 +1,5 @@
 -- How a run ends before anything is written, and what it then writes.
-use Rattle.std.specs.Prelude.{◌≡◌, ◌⊎◌, ℕ, ◌+◌, ◌<◌, ◌≤◌, List, [], ◌∷◌, ◌++◌, length, take, map, codes, position, not, Option, Some, None, option_map, Result, Ok, Err, String, string_bytes, ⊤}
+use Rattle.std.specs.Prelude.{◌≡◌, ◌⊎◌, ℕ, ◌^◌, ◌+◌, ◌<◌, ◌≤◌, List, [], ◌∷◌, ◌++◌, length, take, map, codes, position, not, Option, Some, None, option_map, Result, Ok, Err, String, string_bytes, ⊤}
 use Rattle.std.specs.Fmt.{decimal}
 use Rattle.std.specs.declared.alloc.Global.{Global}
 use Rattle.std.specs.Io.KnownBytes.{Consumes, Appends, Keeps, IsAtEnd}
@@ -18,7 +18,9 @@ use Rattle.session_runner.specs.declared.ending.LineFault.{LineFault}
 use Rattle.session_runner.specs.declared.ending.LineFault.TheVariants.{Json, Form, Unknown, Unbuilt}
 use Rattle.session_runner.specs.Fitting.{is_built}
 use Rattle.session_runner.specs.Passing.{MayFail, Passed}
-use Rattle.session_runner.specs.Report.{report_of}
+use Rattle.session_runner.specs.Report.{names_of, report_of}
+use Rattle.session_runner.specs.Clients.{AreClientsOf}
+use Rattle.session_runner.specs.declared.ending.Run.{Run}
 
 -- the words are the one word `run`
 abbrev pub AreRun : List (String Global) → Type 0
@@ -75,6 +77,18 @@ fault_text (Form n) = line_text n (codes "form")
 fault_text (Unknown n) = line_text n (codes "unknown")
 fault_text (Unbuilt n) = line_text n (codes "unbuilt")
 
+-- a run that is to be reported has the sessions' names, and a client for each as the journal has it
+pub record IsReady (bytes : List ℕ) (run : Run) : Type 0 where
+  pub names_are : run.names ≡ names_of bytes
+  pub clients : AreClientsOf run.clients.items run.book.journal
+  pub many : length run.clients.items ≡ length run.names
+  pub few : length run.names < 2 ^ 32
+
+-- what telling it asks
+abbrev pub CanBeTold : Ending → Type 0
+CanBeTold (ending.Done run) = AreClientsOf run.clients.items run.book.journal × (length run.clients.items ≡ length run.names) × (length run.names < 2 ^ 32)
+CanBeTold _ = ⊤
+
 -- how a whole input ends
 abbrev pub EndsAs : List ℕ → Ending → Type 0
 EndsAs bytes ending.Words = ⊥
@@ -82,7 +96,7 @@ EndsAs bytes ending.Read = ⊥
 EndsAs bytes ending.Long = ⊥
 EndsAs bytes ending.Memory = ⊤
 EndsAs bytes (ending.Script fault) = line_fault bytes ≡ Some fault
-EndsAs bytes (ending.Done book) = IsRun bytes book.journal
+EndsAs bytes (ending.Done run) = IsRun bytes run.book.journal × IsReady bytes run
 
 -- why a run ends so. Where memory was wanting no more than the limit was taken
 abbrev pub Explains : List (String Global) → Passed → Ending → Type 0
@@ -91,7 +105,7 @@ Explains words input ending.Read = AreRun words × ((bytes : List ℕ) × WasBro
 Explains words input ending.Long = AreRun words × ((bytes : List ℕ) × WasLong input bytes)
 Explains words input ending.Memory = AreRun words × ((bytes : List ℕ) × Consumes input.before input.after bytes × (length bytes ≤ INPUT_LIMIT))
 Explains words input (ending.Script fault) = AreRun words × ((bytes : List ℕ) × WasWhole input bytes × (line_fault bytes ≡ Some fault))
-Explains words input (ending.Done book) = AreRun words × ((bytes : List ℕ) × WasWhole input bytes × IsRun bytes book.journal)
+Explains words input (ending.Done run) = AreRun words × ((bytes : List ℕ) × WasWhole input bytes × IsRun bytes run.book.journal × IsReady bytes run)
 
 abbrev pub status_of : Ending → ℕ
 status_of ending.Words = 2
@@ -99,7 +113,7 @@ status_of ending.Read = 5
 status_of ending.Long = 8
 status_of ending.Memory = 4
 status_of (ending.Script fault) = 3
-status_of (ending.Done book) = 0
+status_of (ending.Done run) = 0
 
 abbrev pub text_of : Ending → List ℕ
 text_of ending.Words = codes "fault: words\n"
@@ -107,7 +121,7 @@ text_of ending.Read = codes "fault: read\n"
 text_of ending.Long = codes "fault: input longer than 16777216\n"
 text_of ending.Memory = []
 text_of (ending.Script fault) = fault_text fault
-text_of (ending.Done book) = report_of book.journal
+text_of (ending.Done run) = report_of run.names run.book.journal
 
 -- a part of a text, from its front on, was written
 abbrev pub IsPart : Passed → List ℕ → Type 0
@@ -115,7 +129,7 @@ IsPart out text = (k : ℕ) × (k ≤ length text) × Appends out.before out.aft
 
 -- what may be written where memory is wanting: a part of the report, and else nothing
 abbrev pub IsPartOfReport : Ending → Passed → Type 0
-IsPartOfReport (ending.Done book) out = IsPart out (report_of book.journal)
+IsPartOfReport (ending.Done run) out = IsPart out (report_of run.names run.book.journal)
 IsPartOfReport _ out = Appends out.before out.after []
 
 -- endings for which memory may be wanting as they are told

@@ -1,17 +1,24 @@
 -- Which lines can be done, and what reading promises of them.
-use Rattle.std.specs.Prelude.{◌≡◌, ℕ, ◌<◌, ◌≤◌, Bool, true, false, List, [], ◌∷◌, ◌++◌, length, IfOk, ⊤}
+use Rattle.std.specs.Prelude.{◌≡◌, ◌≢◌, ℕ, ◌<◌, ◌≤◌, Bool, true, false, List, [], ◌∷◌, ◌++◌, length, IfOk, ⊤}
 use Rattle.std.specs.List.{list_any}
 use Rattle.journal_rules.specs.Documents.{Making, is_named}
 use Rattle.journal_rules.specs.Deciding.{longest}
 use Rattle.journal_rules.specs.Legal.{IsRaw, highest_base}
 use Rattle.session_lines.specs.declared.line.Line.{Line}
-use Rattle.session_lines.specs.declared.line.Line.TheVariants.{Doc, Tick, Raw, Drain, Hold, Finish}
+use Rattle.session_lines.specs.declared.line.Line.TheVariants.{Doc, Tick, Raw, Join, Send, Recv, Ins, Del, Com, Sync, Drain, Hold, Finish}
 
 -- the commands that are built so far
 abbrev pub is_built : Line → Bool
 is_built (Doc doc project text v) = true
 is_built (Tick session ms) = true
 is_built (Raw session doc user source dup track v op) = true
+is_built (Join session doc user track) = true
+is_built (Send session) = true
+is_built (Recv session) = true
+is_built (Ins session p text) = true
+is_built (Del session p n) = true
+is_built (Com session p n t) = true
+is_built (Sync session) = true
 is_built (Drain session doc) = true
 is_built (Hold session doc) = true
 is_built (Finish session) = true
@@ -21,6 +28,8 @@ is_built _ = false
 abbrev pub IsFit : List Making → Line → Type 0
 IsFit ms (Doc doc project text v) = (list_any (λ m. is_named doc m) ms ≡ false) × (length ms < 1000) × (length text ≤ longest) × (v ≤ highest_base)
 IsFit ms (Raw session doc user source dup track v op) = (source ≤ 999999) × IfOk op IsRaw
+IsFit ms (Ins session p text) = text ≢ []
+IsFit ms (Del session p n) = 0 < n
 IsFit ms _ = ⊤
 
 abbrev pub makings_by : List Making → Line → List Making

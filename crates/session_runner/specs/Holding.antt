@@ -8,6 +8,7 @@ use Rattle.book.specs.declared.faults.Prepared.{Prepared}
 use Rattle.book.specs.Looking.{IsDecided, IsOf}
 use Rattle.session_runner.specs.declared.driver.Driver.{Driver}
 use Rattle.run_rules.specs.Keeping.{Preparation, Preparations}
+use Rattle.session_runner.specs.Clients.{AreClientsOf}
 
 -- a preparation, as the rules of runs see it
 abbrev pub preparation_of : Prepared → Preparation
@@ -38,7 +39,9 @@ pub record AreHeld (holds : List (Option Prepared)) (journal : List Entry) : Typ
   pub stands : (session : ℕ) (p : Prepared) → slice_get holds session ≡ Some (Some p) → Stands journal p
   pub apart : (one other : ℕ) (p q : Prepared) → one ≢ other → slice_get holds one ≡ Some (Some p) → slice_get holds other ≡ Some (Some q) → p.look.token ≢ q.look.token
 
--- a driver's book has no other drivers, and what sessions keep stands
+-- a driver's book has no other drivers, what sessions keep stands, and each session has its client
 pub record IsDriver (driver : Driver) : Type 0 where
   pub alone : driver.book.drivers ≡ 0
   pub held : AreHeld driver.holds.items driver.book.journal
+  pub clients : AreClientsOf driver.clients.items driver.book.journal
+  pub many : length driver.clients.items ≡ length driver.holds.items

@@ -1,5 +1,5 @@
--- What is written of a journal: a line for each entry, and then a line for each document.
-use Rattle.std.specs.Prelude.{ℕ, ◌+◌, zero, suc, List, [], ◌∷◌, ◌++◌, length, Option, Some, None}
+-- What is written of a journal: a line for each entry, then a line for each document, and then one for each client that ever joined.
+use Rattle.std.specs.Prelude.{ℕ, ◌+◌, zero, suc, List, [], ◌∷◌, ◌++◌, length, Option, Some, None, Result, Ok, Err}
 use Rattle.json_lines.specs.Object.{line_of}
 use Rattle.ranges_tracker.specs.Shown.{shown}
 use Rattle.report_text.specs.declared.document_end.DocEnd.{DocEnd}
@@ -8,6 +8,10 @@ use Rattle.report_text.specs.Entries.{entry_members}
 use Rattle.journal_entries.specs.declared.act.Entry.{Entry}
 use Rattle.journal_rules.specs.Documents.{makings, name, text, version}
 use Rattle.journal_rules.specs.Tracking.{cells}
+use Rattle.run_rules.specs.Report.{client_lines}
+use Rattle.session_lines.specs.declared.script.Script.{Script}
+use Rattle.session_lines.specs.declared.fault.ScriptFault.{ScriptFault}
+use Rattle.session_lines.specs.Script.{script_of}
 
 -- the text of a document, which a legal journal always gives
 abbrev pub text_or_none : Option (List ℕ) → List ℕ
@@ -32,6 +36,14 @@ abbrev pub document_lines : ℕ → List Entry → List ℕ
 document_lines zero journal = []
 document_lines (suc doc) journal = document_lines doc journal ++ document_line doc journal
 
--- the report of a journal
-abbrev pub report_of : List Entry → List ℕ
-report_of journal = entry_lines 0 journal ++ document_lines (length (makings journal)) journal
+-- the report of a journal of sessions with these names
+abbrev pub report_of : List (List ℕ) → List Entry → List ℕ
+report_of names journal = entry_lines 0 journal ++ (document_lines (length (makings journal)) journal ++ client_lines 0 names journal)
+
+-- the names of the sessions of an input
+abbrev pub names_in : Result Script ScriptFault → List (List ℕ)
+names_in (Ok script) = script.names
+names_in (Err fault) = []
+
+abbrev pub names_of : List ℕ → List (List ℕ)
+names_of bytes = names_in (script_of bytes)

@@ -7,7 +7,7 @@ use Rattle.journal_entries.specs.declared.act.Entry.{Entry}
 use Rattle.session_runner.specs.declared.ending.LineFault.{LineFault}
 use Rattle.session_runner.specs.Ending.{AreRun, fault_text, IsPart, IsRun, line_fault, WasBroken, WasLong, WasWhole}
 use Rattle.session_runner.specs.Passing.{MayFail, Passed}
-use Rattle.session_runner.specs.Report.{report_of}
+use Rattle.session_runner.specs.Report.{names_of, report_of}
 
 abbrev pub IsStatus : ℕ → Type 0
 IsStatus n = (n ≡ 0) ⊎ (n ≡ 2) ⊎ (n ≡ 3) ⊎ (n ≡ 4) ⊎ (n ≡ 5) ⊎ (n ≡ 6) ⊎ (n ≡ 8)
@@ -18,7 +18,7 @@ Writes out text = Appends out.before out.after text
 
 -- status 0: the whole input was read and is a script; a legal journal follows it, and its report was written
 abbrev pub IsDone : List (String Global) → Passed → Passed → Type 0
-IsDone words input out = AreRun words × ((bytes : List ℕ) × (journal : List Entry) × WasWhole input bytes × IsRun bytes journal × Writes out (report_of journal))
+IsDone words input out = AreRun words × ((bytes : List ℕ) × (journal : List Entry) × WasWhole input bytes × IsRun bytes journal × Writes out (report_of (names_of bytes) journal))
 
 -- status 2: the words are outside the form, and nothing was read
 abbrev pub IsOtherWords : List (String Global) → Passed → Passed → Type 0
@@ -31,7 +31,7 @@ IsNoScript words input out = AreRun words × ((bytes : List ℕ) × (fault : Lin
 -- status 4: memory was wanting. Nothing was written, or a part of the report; and no more than the limit was taken
 abbrev pub IsWanting : List (String Global) → Passed → Passed → Type 0
 IsWanting words input out =
-    AreRun words × (Writes out [] ⊎ ((bytes : List ℕ) × (journal : List Entry) × WasWhole input bytes × IsRun bytes journal × IsPart out (report_of journal)))
+    AreRun words × (Writes out [] ⊎ ((bytes : List ℕ) × (journal : List Entry) × WasWhole input bytes × IsRun bytes journal × IsPart out (report_of (names_of bytes) journal)))
 
 -- status 5: the source failed behind no more than the limit
 abbrev pub IsUnread : List (String Global) → Passed → Passed → Type 0
@@ -48,7 +48,7 @@ IsToWrite words input text =
     ⊎ (AreRun words × ((bytes : List ℕ) × WasBroken input bytes) × (text ≡ codes "fault: read\n"))
     ⊎ (AreRun words × ((bytes : List ℕ) × WasLong input bytes) × (text ≡ codes "fault: input longer than 16777216\n"))
     ⊎ (AreRun words × ((bytes : List ℕ) × (fault : LineFault) × WasWhole input bytes × (line_fault bytes ≡ Some fault) × (text ≡ fault_text fault)))
-    ⊎ (AreRun words × ((bytes : List ℕ) × (journal : List Entry) × WasWhole input bytes × IsRun bytes journal × (text ≡ report_of journal)))
+    ⊎ (AreRun words × ((bytes : List ℕ) × (journal : List Entry) × WasWhole input bytes × IsRun bytes journal × (text ≡ report_of (names_of bytes) journal)))
 
 -- status 6: the sink failed behind a part of what was to be written
 abbrev pub IsCutShort : List (String Global) → Passed → Passed → Type 0

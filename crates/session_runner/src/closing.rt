@@ -1,21 +1,28 @@
-//! The end of a run: the driver closes, every lock expires, and all that waits is drained.
+//! The end of a run: the driver closes, every lock expires, all that waits is drained, and the clients
+//! catch up.
 
-ghost use Rattle.std.specs.Prelude.{◌≡◌, ◌+◌, ◌≤◌, ◌++◌, ◌∷◌, [], ℕ, length, OnOk, None};
+ghost use Rattle.std.specs.Prelude.{◌≡◌, ◌+◌, ◌≤◌, ◌++◌, ◌∷◌, [], ℕ, length, map, OnOk, IfErr, Some, None};
 ghost use Rattle.expiring_lock.specs.declared.lock.TheConstants.{LOCK_LIFE};
 ghost use Rattle.journal_entries.specs.declared.act.Act.TheVariants.{Closed};
 ghost use Rattle.journal_rules.specs.Documents.{IsMade, makings, waiting};
 ghost use Rattle.journal_rules.specs.Legal.{clock_end, closed};
 ghost use Rattle.journal_rules.specs.Locks.{clock};
-ghost use Rattle.ending_rules.specs.Rounds.{any_below, has_any};
+ghost use Rattle.ending_rules.specs.Rounds.{any_below, has_any, is_unfinished as is_unfinished_lem, needs_round as needs_round_lem};
+ghost use Rattle.turn_rules.specs.Clients.{is_joined as is_joined_lem};
 ghost use Rattle.turn_rules.specs.Locking.{busy};
 ghost use Rattle.turn_rules.specs.Turns.{entry_by};
-ghost use Rattle.run_rules.specs.Ending.{DrainsDry, EndsUnflushed, InOrder, Rounds};
-ghost use Rattle.session_runner.specs.Apart.{IsUnjoined};
+ghost use Rattle.run_rules.specs.Ending.{CatchesUp, DrainsDry, EndsUnflushed, InOrder, Rounds, at_end, sending_acts};
+ghost use Rattle.share_client.specs.Clients.{told_send};
+ghost use Rattle.book.specs.Roomed.{IsClientAfter, IsClientOf};
+ghost use Rattle.session_runner.specs.Clients.{AreClientsOf, GoesQuietly, StayAll};
 
 use crate::driver::tick;
+use crate::mail::receive_all;
 use book::{Book, By};
 use dispatcher::{DrainEnd, drain, legal};
 use expiring_lock::LOCK_LIFE;
+use journal_rules::ClientState;
+use share_client::{SendFault, ShareClient};
 use std::alloc::{AllocError, Global};
 
 /// Who ends a run: seat 0, for no line.
@@ -27,35 +34,57 @@ const AT_END: By = By {
 /// Three rounds suffice for all that a run may leave.
 const MAX_ROUNDS: u32 = 3;
 
-/// Ends a run of one driver that did its lines. Nobody has joined.
-pub(crate) fn end_run(alloc: Global, book: &mut Book) -> Result<(), AllocError>
+/// Ends a run of one driver that did its lines, whose sessions have these clients. The only error is
+/// want of memory.
+pub(crate) fn end_run(
+    alloc: Global,
+    book: &mut Book,
+    clients: &mut Vec<ShareClient>,
+) -> Result<(), AllocError>
     requires drivers { book.old.drivers ≡ 0 }
     requires closed { closed book.old.journal ≡ [] }
-    requires unjoined { IsUnjoined book.old.journal }
+    requires clients { AreClientsOf clients.old.items book.old.journal }
     requires low { clock book.old.journal + LOCK_LIFE ≤ clock_end }
-    ensures { OnOk result ((sessions : ℕ) → EndsUnflushed sessions (book.old.journal ++ entry_by 0 None (Closed 0) ∷ []) book.new.journal) }
+    ensures ends { OnOk result (EndsUnflushed (length clients.old.items) (book.old.journal ++ entry_by 0 None (Closed 0) ∷ []) book.new.journal) }
+    ensures clients { OnOk result (AreClientsOf clients.new.items book.new.journal) }
+    ensures sessions { OnOk result (length clients.new.items ≡ length clients.old.items) }
 {
     book.close_driver(AT_END, 0);
     tick(book, AT_END, LOCK_LIFE)?;
     legal(book);
-    go_rounds(alloc, book)
+    go_rounds(alloc, book, clients)
 }
 
 // Goes at most three rounds, as long as one is needed.
-fn go_rounds(alloc: Global, book: &mut Book) -> Result<(), AllocError>
+fn go_rounds(
+    alloc: Global,
+    book: &mut Book,
+    clients: &mut Vec<ShareClient>,
+) -> Result<(), AllocError>
     requires free { (doc : ℕ) → busy doc book.old.journal ≡ None }
-    requires unjoined { IsUnjoined book.old.journal }
-    ensures { OnOk result ((sessions : ℕ) → Rounds sessions 3 book.old.journal book.new.journal) }
+    requires clients { AreClientsOf clients.old.items book.old.journal }
+    ensures rounds { OnOk result (Rounds (length clients.old.items) 3 book.old.journal book.new.journal) }
+    ensures clients { OnOk result (AreClientsOf clients.new.items book.new.journal) }
+    ensures sessions { OnOk result (length clients.new.items ≡ length clients.old.items) }
 {
     let mut left = MAX_ROUNDS;
     'rounds: while left > 0 {
-        if !any_waits(book) {
+        if !needs_round(book, clients) {
             return Ok(());
         }
         drain_all(alloc, book)?;
+        catch_up_all(book, clients)?;
         left -= 1;
     }
     Ok(())
+}
+
+// Whether a further round is needed.
+fn needs_round(book: &Book, clients: &Vec<ShareClient>) -> bool
+    requires { AreClientsOf clients.now.items book.now.journal }
+    ensures { result ≡ needs_round_lem (length clients.now.items) book.now.journal }
+{
+    any_waits(book) || any_unfinished(book, clients)
 }
 
 // Whether an update waits for some document.
@@ -71,13 +100,42 @@ fn any_waits(book: &Book) -> bool
     false
 }
 
+// Whether a client is unfinished.
+fn any_unfinished(book: &Book, clients: &Vec<ShareClient>) -> bool
+    requires { AreClientsOf clients.now.items book.now.journal }
+    ensures { result ≡ any_below (λ c. is_unfinished_lem c book.now.journal) (length clients.now.items) }
+{
+    for client in clients {
+        if is_unfinished(book, client) {
+            return true;
+        }
+    }
+    false
+}
+
+// Whether a client is joined, and has mail, an operation in flight or something pending.
+fn is_unfinished(book: &Book, client: &ShareClient) -> bool
+    requires { IsClientOf book.now.journal client.now }
+    ensures { result ≡ is_unfinished_lem client.now.client book.now.journal }
+{
+    is_joined(client)
+        && (book.has_mail(client.client())
+            || client.flight().is_some()
+            || !client.pending().comps().is_empty())
+}
+
+fn is_joined(client: &ShareClient) -> bool
+    ensures { result ≡ is_joined_lem client.now.now.state }
+{
+    matches!(client.state(), ClientState::Joined)
+}
+
 // Drains each document in order.
 fn drain_all(alloc: Global, book: &mut Book) -> Result<(), AllocError>
     requires free { (doc : ℕ) → busy doc book.old.journal ≡ None }
-    requires unjoined { IsUnjoined book.old.journal }
     ensures drains { OnOk result (InOrder DrainsDry (length (makings book.old.journal)) book.old.journal book.new.journal) }
     ensures free { OnOk result ((doc : ℕ) → busy doc book.new.journal ≡ None) }
-    ensures unjoined { OnOk result (IsUnjoined book.new.journal) }
+    ensures stay { OnOk result (StayAll book.old.journal book.new.journal) }
 {
     let docs = book.docs();
     for doc in 0..docs {
@@ -90,10 +148,9 @@ fn drain_all(alloc: Global, book: &mut Book) -> Result<(), AllocError>
 fn drain_dry(alloc: Global, book: &mut Book, doc: u32) -> Result<(), AllocError>
     requires made { IsMade doc book.old.journal }
     requires free { (doc : ℕ) → busy doc book.old.journal ≡ None }
-    requires unjoined { IsUnjoined book.old.journal }
     ensures dry { OnOk result (DrainsDry doc book.old.journal book.new.journal) }
     ensures free { OnOk result ((doc : ℕ) → busy doc book.new.journal ≡ None) }
-    ensures unjoined { OnOk result (IsUnjoined book.new.journal) }
+    ensures stay { OnOk result (StayAll book.old.journal book.new.journal) }
     ensures makings { OnOk result (makings book.new.journal ≡ makings book.old.journal) }
 {
     let most = book.waiting(doc);
@@ -103,5 +160,58 @@ fn drain_dry(alloc: Global, book: &mut Book, doc: u32) -> Result<(), AllocError>
         DrainEnd::Done { .. } => Ok(()),
         DrainEnd::Memory { .. } => Err(AllocError),
         DrainEnd::Busy { .. } => unreachable!(),
+    }
+}
+
+// Each client catches up, in order.
+fn catch_up_all(book: &mut Book, clients: &mut Vec<ShareClient>) -> Result<(), AllocError>
+    requires free { (doc : ℕ) → busy doc book.old.journal ≡ None }
+    requires clients { AreClientsOf clients.old.items book.old.journal }
+    ensures catches { OnOk result (InOrder CatchesUp (length clients.old.items) book.old.journal book.new.journal) }
+    ensures free { OnOk result ((doc : ℕ) → busy doc book.new.journal ≡ None) }
+    ensures clients { OnOk result (AreClientsOf clients.new.items book.new.journal) }
+    ensures sessions { OnOk result (length clients.new.items ≡ length clients.old.items) }
+{
+    for client in clients.iter_mut() {
+        catch_up(book, client)?;
+    }
+    Ok(())
+}
+
+// A client that is joined gets all of its mail, and then sends.
+fn catch_up(book: &mut Book, client: &mut ShareClient) -> Result<(), AllocError>
+    requires { IsClientOf book.old.journal client.old }
+    ensures catches { OnOk result (CatchesUp client.old.client book.old.journal book.new.journal) }
+    ensures client { OnOk result (IsClientAfter book.new.journal client.old client.new) }
+    ensures quiet { OnOk result (GoesQuietly client.old.client book.old.journal book.new.journal) }
+{
+    if !is_joined(client) {
+        return Ok(());
+    }
+    receive_all(book, client, AT_END)?;
+    send_own(book, client)
+}
+
+// A client sends again what is in flight, or else what is pending. It sends nothing where it isn't
+// joined any more or has nothing to send.
+fn send_own(book: &mut Book, client: &mut ShareClient) -> Result<(), AllocError>
+    requires { IsClientOf book.old.journal client.old }
+    ensures sends { OnOk result (book.new.journal ≡ book.old.journal ++ map at_end (sending_acts client.old.client book.old.journal)) }
+    ensures client { IsClientAfter book.new.journal client.old client.new }
+{
+    if client.flight().is_some() {
+        return unless_memory(book.resend(AT_END, client));
+    }
+    unless_memory(book.send(AT_END, client))
+}
+
+// That nothing was sent is no error; want of memory is.
+fn unless_memory(sent: Result<u64, SendFault>) -> Result<(), AllocError>
+    ensures { OnOk result (IfErr sent (λ f. told_send f ≡ Some f)) }
+{
+    match sent {
+        Ok(_) => Ok(()),
+        Err(SendFault::NotJoined | SendFault::InFlight | SendFault::Nothing) => Ok(()),
+        Err(SendFault::Memory) => Err(AllocError),
     }
 }

@@ -1,6 +1,6 @@
 //! The driver of a run on one thread: it does the lines of a script in order.
 
-ghost use Rattle.std.specs.Prelude.{◌≡◌, ◌+◌, ◌<◌, ◌≤◌, ◌^◌, ◌-◌, ◌∷◌, [], true, length, slice_get, slice_set, sum_by, IfOk, OnOk, None, Some, Option, is_some, All};
+ghost use Rattle.std.specs.Prelude.{◌≡◌, ◌+◌, ◌<◌, ◌≤◌, ◌^◌, ◌-◌, ◌∷◌, [], ℕ, true, length, slice_get, slice_set, sum_by, IfOk, OnOk, None, Some, Option, is_some, All};
 ghost use Rattle.book.specs.Calls.{raw_act};
 ghost use Rattle.book.specs.Shown.{adds};
 ghost use Rattle.book.specs.declared.faults.Prepared.{Prepared};
@@ -12,40 +12,62 @@ ghost use Rattle.journal_rules.specs.Locks.{clock, next_token};
 ghost use Rattle.session_lines.specs.Script.{session_of};
 ghost use Rattle.session_lines.specs.Standing.{AreBySessions, is_one_of, moved_by};
 ghost use Rattle.run_rules.specs.Keeping.{keeping, nothing_kept};
-ghost use Rattle.run_rules.specs.Lines.{Does, DrainsNamed, Finishes, Holds, Leads, numbered};
+ghost use Rattle.run_rules.specs.Lines.{Does, DrainsNamed, Finishes, Holds, Joins, Leads, Syncs, numbered};
 ghost use Rattle.turn_rules.specs.Turns.{Alone, Turn, entry_by};
-ghost use Rattle.session_runner.specs.Apart.{GoesApart, IsBehind, IsUnjoined};
+ghost use Rattle.session_runner.specs.Apart.{GoesApart, IsBehind};
+ghost use Rattle.session_runner.specs.Clients.{AreClientsOf, GoesQuietly};
+ghost use Rattle.session_runner.specs.Syncing.{GoesApartThenQuietly};
+ghost use Rattle.share_client.specs.Clients.{Numbered};
+ghost use Rattle.share_client.specs.Edits.{IsEdit, edit_comp, edit_end};
+ghost use Rattle.journal_rules.specs.Client.{away as away_lem, client as client_lem};
+ghost use Rattle.turn_rules.specs.Clients.{edit_act, recv_act, send_act};
+ghost use Rattle.session_runner.specs.declared.driver.Left.{Left};
+ghost use Rattle.std.specs.Global.{Vec};
 ghost use Rattle.session_runner.specs.Fitting.{AreBuilt, AreFit, IsFit, is_built};
 ghost use Rattle.session_runner.specs.Holding.{IsDriver, kept_in};
 
+use crate::syncing::sync_client;
 use book::{
     AcquireFault, Book, By, CommitFault, MakeFault, Prepared, RawFault, RawUpdate, TickFault,
 };
 use dispatcher::{DrainEnd, drain, prepare};
+use client_lines::join_named;
 use journal_entries::Why;
 use ot_units::{Name, Units};
 use session_lines::Line;
+use share_client::{Edit, ShareClient};
 use std::alloc::{AllocError, Global};
 
-/// The book of a run, and what each session keeps from a `hold` to its next `finish`, by its number.
+/// The book of a run, what each session keeps from a `hold` to its next `finish`, and each session's
+/// client, by the sessions' numbers.
 #[derive(Drop)]
 pub(crate) struct Driver {
     pub book: Book,
     pub holds: Vec<Option<Prepared>>,
+    pub clients: Vec<ShareClient>,
 }
 
-/// Does the lines in order, from line 1 on, and gives the book back. Sessions keep nothing at first.
-pub(crate) fn do_lines(alloc: Global, lines: Vec<Line>, sessions: u32) -> Result<Book, AllocError>
+/// What a run's lines leave: its book, and the clients of its sessions.
+#[derive(Drop)]
+pub(crate) struct Left {
+    pub book: Book,
+    pub clients: Vec<ShareClient>,
+}
+
+/// Does the lines in order, from line 1 on, and gives the book and the clients back. Sessions keep
+/// nothing at first, and no client has joined.
+pub(crate) fn do_lines(alloc: Global, lines: Vec<Line>, sessions: u32) -> Result<Left, AllocError>
     requires fit { AreFit [] lines.items }
     requires built { AreBuilt lines.items }
     requires numbered { AreBySessions sessions lines.items }
     requires slow { sum_by moved_by lines.items ≤ clock_end }
     requires few { length lines.items < 2 ^ 32 - 1 }
-    ensures leads { IfOk result (λ book. Leads 0 Alone (numbered 1 lines.items) nothing_kept [] book.journal) }
-    ensures drivers { IfOk result (λ book. book.drivers ≡ 0) }
-    ensures clock { IfOk result (λ book. clock book.journal ≡ sum_by moved_by lines.items) }
-    ensures closed { IfOk result (λ book. closed book.journal ≡ []) }
-    ensures unjoined { IfOk result (λ book. IsUnjoined book.journal) }
+    ensures leads { IfOk result (λ (left : Left). Leads 0 Alone (numbered 1 lines.items) nothing_kept [] left.book.journal) }
+    ensures drivers { IfOk result (λ (left : Left). left.book.drivers ≡ 0) }
+    ensures clock { IfOk result (λ (left : Left). clock left.book.journal ≡ sum_by moved_by lines.items) }
+    ensures closed { IfOk result (λ (left : Left). closed left.book.journal ≡ []) }
+    ensures clients { IfOk result (λ (left : Left). AreClientsOf left.clients.items left.book.journal) }
+    ensures many { IfOk result (λ (left : Left). length left.clients.items ≡ sessions) }
 {
     let mut driver = Driver::new(alloc, sessions)?;
     let mut number = 1;
@@ -53,8 +75,8 @@ pub(crate) fn do_lines(alloc: Global, lines: Vec<Line>, sessions: u32) -> Result
         driver.do_line(alloc, number, line)?;
         number += 1;
     }
-    let Driver { book, .. } = driver;
-    Ok(book)
+    let Driver { book, clients, .. } = driver;
+    Ok(Left { book, clients })
 }
 
 impl Driver {
@@ -63,13 +85,17 @@ impl Driver {
         ensures book { IfOk result (λ driver. driver.book ≡ record { journal = []; drivers = 0 }) }
         ensures sessions { IfOk result (λ driver. length driver.holds.items ≡ sessions) }
         ensures nothing { IfOk result (λ driver. All (λ kept. kept ≡ None) driver.holds.items) }
+        ensures many { IfOk result (λ driver. length driver.clients.items ≡ sessions) }
+        ensures away { IfOk result (λ driver. (c : ℕ) (x : Numbered) → slice_get driver.clients.items c ≡ Some x → x ≡ record { client = c; now = away_lem }) }
     {
         let book = Book::new(alloc, 0)?;
-        let mut holds = Vec::new(alloc);
-        'filling: while holds.len() < sessions as usize {
-            holds.push(None)?;
-        }
-        Ok(Driver { book, holds })
+        let holds = no_holds(alloc, sessions)?;
+        let clients = away_clients(alloc, sessions)?;
+        Ok(Driver {
+            book,
+            holds,
+            clients,
+        })
     }
 
     // Does the line of this number.
@@ -116,10 +142,30 @@ impl Driver {
                         v,
                         op,
                     };
-                    send(&mut self.book, by, &raw)
+                    send_raw(&mut self.book, by, &raw)
                 }
                 None => self.book.decline(by, session, Why::NoDoc),
             },
+            Line::Join {
+                session,
+                doc,
+                user,
+                track,
+            } => self.join(by, session, &doc, &user, track),
+            Line::Ins { session, p, s } => self.edit(by, session, &Edit::Insert { at: p, text: s }),
+            Line::Del { session, p, n } => self.edit(by, session, &Edit::Delete { at: p, len: n }),
+            Line::Com { session, p, n, t } => self.edit(
+                by,
+                session,
+                &Edit::Comment {
+                    at: p,
+                    len: n,
+                    thread: t,
+                },
+            ),
+            Line::Send { session } => self.send(by, session),
+            Line::Recv { session } => self.receive(by, session),
+            Line::Sync { session } => self.sync(alloc, by, session),
             Line::Drain { session, doc } => drain_named(
                 alloc,
                 &mut self.book,
@@ -131,6 +177,94 @@ impl Driver {
             Line::Finish { session } => self.finish(number, session),
             _ => unreachable!(),
         }
+    }
+
+    // A session's client joins the document of a name.
+    fn join(
+        &mut self,
+        by: By,
+        session: u32,
+        doc: &Name,
+        user: &Name,
+        track: bool,
+    ) -> Result<(), AllocError>
+        requires driver { IsDriver self.old }
+        requires session { session < length self.old.holds.items }
+        requires seat { by.seat ≡ 0 }
+        ensures joins { OnOk result (Turn Alone (λ look made. Joins (entry_by 0 by.line) session (number_of doc.now look) user.now track look made) self.old.book.journal self.new.book.journal) }
+        ensures driver { OnOk result (IsDriver self.new) }
+        ensures holds { self.new.holds ≡ self.old.holds }
+        ensures quiet { OnOk result (GoesQuietly session self.old.book.journal self.new.book.journal) }
+    {
+        let Some(client) = self.clients.get_mut(session as usize) else {
+            unreachable!()
+        };
+        join_named(&mut self.book, client, by, doc, user, track)
+    }
+
+    // A session's client edits its text.
+    fn edit(&mut self, by: By, session: u32, edit: &Edit) -> Result<(), AllocError>
+        requires driver { IsDriver self.old }
+        requires session { session < length self.old.holds.items }
+        requires seat { by.seat ≡ 0 }
+        requires edit { IsEdit edit.now }
+        ensures edits { OnOk result (self.new.book ≡ adds self.old.book 0 by.line (edit_act session self.old.book.journal (edit_end edit.now) (edit_comp (client_lem session self.old.book.journal).text edit.now) ∷ [])) }
+        ensures driver { OnOk result (IsDriver self.new) }
+        ensures holds { self.new.holds ≡ self.old.holds }
+        ensures quiet { OnOk result (GoesQuietly session self.old.book.journal self.new.book.journal) }
+    {
+        let Some(client) = self.clients.get_mut(session as usize) else {
+            unreachable!()
+        };
+        client_lines::edit(&mut self.book, client, by, edit)
+    }
+
+    // A session's client sends what is pending.
+    fn send(&mut self, by: By, session: u32) -> Result<(), AllocError>
+        requires driver { IsDriver self.old }
+        requires session { session < length self.old.holds.items }
+        requires seat { by.seat ≡ 0 }
+        ensures sends { OnOk result (self.new.book ≡ adds self.old.book 0 by.line (send_act session self.old.book.journal ∷ [])) }
+        ensures driver { OnOk result (IsDriver self.new) }
+        ensures holds { self.new.holds ≡ self.old.holds }
+        ensures quiet { OnOk result (GoesQuietly session self.old.book.journal self.new.book.journal) }
+    {
+        let Some(client) = self.clients.get_mut(session as usize) else {
+            unreachable!()
+        };
+        client_lines::send(&mut self.book, client, by)
+    }
+
+    // A session's client gets the first message of its mail.
+    fn receive(&mut self, by: By, session: u32) -> Result<(), AllocError>
+        requires driver { IsDriver self.old }
+        requires session { session < length self.old.holds.items }
+        requires seat { by.seat ≡ 0 }
+        ensures gets { OnOk result (self.new.book ≡ adds self.old.book 0 by.line (recv_act session self.old.book.journal ∷ [])) }
+        ensures driver { OnOk result (IsDriver self.new) }
+        ensures holds { self.new.holds ≡ self.old.holds }
+        ensures quiet { OnOk result (GoesQuietly session self.old.book.journal self.new.book.journal) }
+    {
+        let Some(client) = self.clients.get_mut(session as usize) else {
+            unreachable!()
+        };
+        client_lines::receive(&mut self.book, client, by)
+    }
+
+    // A session's document is drained, and its client gets all of its mail.
+    fn sync(&mut self, alloc: Global, by: By, session: u32) -> Result<(), AllocError>
+        requires driver { IsDriver self.old }
+        requires session { session < length self.old.holds.items }
+        requires seat { by.seat ≡ 0 }
+        ensures syncs { OnOk result (Syncs (entry_by 0 by.line) Alone session self.old.book.journal self.new.book.journal) }
+        ensures driver { OnOk result (IsDriver self.new) }
+        ensures holds { self.new.holds ≡ self.old.holds }
+        ensures goes { OnOk result (GoesApartThenQuietly (next_token self.old.book.journal) session self.old.book.journal self.new.book.journal) }
+    {
+        let Some(client) = self.clients.get_mut(session as usize) else {
+            unreachable!()
+        };
+        sync_client(alloc, &mut self.book, client, by)
     }
 
     // Takes up the first update that waits for a document, decides on it, and keeps that.
@@ -201,6 +335,30 @@ impl Driver {
     }
 }
 
+// So many sessions that keep nothing.
+fn no_holds(alloc: Global, sessions: u32) -> Result<Vec<Option<Prepared>>, AllocError>
+    ensures many { IfOk result (λ (made : Vec (Option Prepared)). length made.items ≡ sessions) }
+    ensures nothing { IfOk result (λ (made : Vec (Option Prepared)). All (λ kept. kept ≡ None) made.items) }
+{
+    let mut holds = Vec::new(alloc);
+    'filling: while holds.len() < sessions as usize {
+        holds.push(None)?;
+    }
+    Ok(holds)
+}
+
+// So many clients that never joined, numbered from 0.
+fn away_clients(alloc: Global, sessions: u32) -> Result<Vec<ShareClient>, AllocError>
+    ensures many { IfOk result (λ (made : Vec Numbered). length made.items ≡ sessions) }
+    ensures away { IfOk result (λ (made : Vec Numbered). (c : ℕ) (x : Numbered) → slice_get made.items c ≡ Some x → x ≡ record { client = c; now = away_lem }) }
+{
+    let mut clients = Vec::new(alloc);
+    for number in 0..sessions {
+        clients.push(ShareClient::new(alloc, number))?;
+    }
+    Ok(clients)
+}
+
 // Whether a session keeps something.
 fn is_kept(holds: &Vec<Option<Prepared>>, session: u32) -> bool
     requires { session < length holds.now.items }
@@ -261,7 +419,7 @@ pub(crate) fn tick(book: &mut Book, by: By, ms: u64) -> Result<(), AllocError>
 }
 
 // Sends a raw update to a document that was made.
-fn send(book: &mut Book, by: By, raw: &RawUpdate) -> Result<(), AllocError>
+fn send_raw(book: &mut Book, by: By, raw: &RawUpdate) -> Result<(), AllocError>
     requires made { IsMade raw.now.doc book.old.journal }
     requires source { raw.now.source ≤ 999999 }
     requires within { IfOk raw.now.op IsRaw }

@@ -5,16 +5,19 @@ ghost use Rattle.std.specs.Fmt.{decimal};
 ghost use Rattle.session_lines.specs.Script.{script_of};
 ghost use Rattle.session_lines.specs.Standing.{AreBySessions, AreSlow};
 ghost use Rattle.run_rules.specs.Follows.{FollowsUnflushed};
-ghost use Rattle.session_runner.specs.Ending.{AreRun, EndsAs, Explains, IsTextTold, IsTold, fault_in, fault_text, first_unbuilt as first_unbuilt_lem, line_text};
+ghost use Rattle.session_runner.specs.Ending.{AreRun, CanBeTold, EndsAs, Explains, IsTextTold, IsTold, fault_in, fault_text, first_unbuilt as first_unbuilt_lem, line_text};
 ghost use Rattle.session_runner.specs.Fitting.{AreBuilt, AreFit, is_built as is_built_lem};
 ghost use Rattle.session_runner.specs.Passing.{passed};
+ghost use Rattle.session_runner.specs.Clients.{AreClientsOf};
+ghost use Rattle.session_runner.specs.declared.driver.Left.{Left};
 
 use crate::closing::end_run;
-use crate::driver::do_lines;
+use crate::driver::{Left, do_lines};
 use crate::report::{WriteFault, write_report};
 use book::Book;
 use dispatcher::legal;
-use session_lines::{Line, ScriptFault, read_script};
+use session_lines::{Line, Names, Script, ScriptFault, read_script};
+use share_client::ShareClient;
 use source_sink::{ReadFault, Sink, Source, read_all, write_all};
 use std::alloc::{AllocError, Global};
 
@@ -39,7 +42,15 @@ pub(crate) enum Ending {
     Long,
     Memory,
     Script(LineFault),
-    Done(Book),
+    Done(Run),
+}
+
+/// A run that was done: its book, and its sessions' clients and names, by their numbers.
+#[derive(Drop)]
+pub(crate) struct Run {
+    pub book: Book,
+    pub clients: Vec<ShareClient>,
+    pub names: Names,
 }
 
 /// Reads the input, where the words are in form, and does its lines.
@@ -81,10 +92,19 @@ fn ending_of(alloc: Global, bytes: &[u8]) -> Ending
     if let Some(n) = first_unbuilt(script.lines.as_slice()) {
         return Ending::Script(LineFault::Unbuilt(n));
     }
-    match run_lines(alloc, script.lines.into_vec(), script.sessions) {
-        Ok(book) => {
+    let Script {
+        lines,
+        sessions,
+        names,
+    } = script;
+    match run_lines(alloc, lines.into_vec(), sessions) {
+        Ok(Left { book, clients }) => {
             legal(&book);
-            Ending::Done(book)
+            Ending::Done(Run {
+                book,
+                clients,
+                names,
+            })
         }
         Err(_) => Ending::Memory,
     }
@@ -115,27 +135,40 @@ fn is_built(line: &Line) -> bool
         Line::Doc { .. }
             | Line::Tick { .. }
             | Line::Raw { .. }
+            | Line::Join { .. }
+            | Line::Send { .. }
+            | Line::Recv { .. }
+            | Line::Ins { .. }
+            | Line::Del { .. }
+            | Line::Com { .. }
+            | Line::Sync { .. }
             | Line::Drain { .. }
             | Line::Hold { .. }
             | Line::Finish { .. }
     )
 }
 
-fn run_lines(alloc: Global, lines: Vec<Line>, sessions: u32) -> Result<Book, AllocError>
+fn run_lines(alloc: Global, lines: Vec<Line>, sessions: u32) -> Result<Left, AllocError>
     requires fit { AreFit [] lines.items }
     requires built { AreBuilt lines.items }
     requires numbered { AreBySessions sessions lines.items }
     requires slow { AreSlow 16777216 lines.items }
     requires few { length lines.items ≤ 16777216 }
-    ensures { IfOk result (λ book. FollowsUnflushed lines.items sessions book.journal) }
+    ensures follows { IfOk result (λ (left : Left). FollowsUnflushed lines.items sessions left.book.journal) }
+    ensures clients { IfOk result (λ (left : Left). AreClientsOf left.clients.items left.book.journal) }
+    ensures many { IfOk result (λ (left : Left). length left.clients.items ≡ sessions) }
 {
-    let mut book = do_lines(alloc, lines, sessions)?;
-    end_run(alloc, &mut book)?;
-    Ok(book)
+    let Left {
+        mut book,
+        mut clients,
+    } = do_lines(alloc, lines, sessions)?;
+    end_run(alloc, &mut book, &mut clients)?;
+    Ok(Left { book, clients })
 }
 
 /// Writes what the ending says, and gives the status.
 pub(crate) fn tell<W: Sink>(alloc: Global, out: &mut W, ending: &Ending) -> u8
+    requires { CanBeTold ending.now }
     ensures { IsTold (passed W.written W.count out.old out.new) ending.now result }
 {
     match ending {
@@ -147,7 +180,7 @@ pub(crate) fn tell<W: Sink>(alloc: Global, out: &mut W, ending: &Ending) -> u8
             Ok(text) => tell_text(out, 3, text.as_bytes()),
             Err(_) => 4,
         },
-        Ending::Done(book) => match write_report(alloc, book, out) {
+        Ending::Done(run) => match write_report(alloc, run, out) {
             Ok(()) => 0,
             Err(WriteFault::Failed) => 6,
             Err(WriteFault::Memory) => 4,

@@ -4,7 +4,9 @@
 mod closing;
 mod driver;
 mod ending;
+mod mail;
 mod report;
 mod run;
+mod syncing;
 
 pub use run::run_alone;

@@ -1,17 +1,25 @@
-//! The report of a journal: a line for each entry, and then a line for each document.
+//! The report of a journal: a line for each entry, then a line for each document, and then one for
+//! each client that ever joined.
 
-ghost use Rattle.std.specs.Prelude.{◌≡◌, ◌++◌, ℕ, List, Option, length, IfOk};
+ghost use Rattle.std.specs.Prelude.{◌≡◌, ◌<◌, ◌^◌, ◌++◌, ℕ, List, Option, length, IfOk};
 ghost use Rattle.source_sink.specs.Buffered.{Delivered};
 ghost use Rattle.source_sink.specs.Causes.{HasCauseOf};
 ghost use Rattle.source_sink.specs.Outside.{Wrote};
 ghost use Rattle.journal_rules.specs.Documents.{IsMade, makings};
 ghost use Rattle.session_runner.specs.Report.{document_line as document_line_lem, document_lines, entry_lines, report_of};
 ghost use Rattle.session_runner.specs.Writing.{Pushed};
+ghost use Rattle.session_runner.specs.Clients.{AreClientsOf};
+ghost use Rattle.run_rules.specs.Report.{client_line_of, client_lines, end_state as end_state_lem, shown_text};
 
+use crate::ending::Run;
 use book::Book;
 use journal_entries::Entry;
 use ot_text::doc_units;
-use report_text::{DocEnd, doc_line, entry_line};
+use journal_rules::ClientState;
+use ot_op::Op;
+use ot_units::{Name, Units};
+use report_text::{ClientEnd, DocEnd, EndState, client_line, doc_line, entry_line};
+use share_client::ShareClient;
 use source_sink::{Failed, Sink, WriteBuffer};
 use std::alloc::{AllocError, Global};
 
@@ -45,30 +53,37 @@ impl From<AllocError> for WriteFault {
 /// Writes the report line by line. Its memory doesn't grow with the report.
 pub(crate) fn write_report<W: Sink>(
     alloc: Global,
-    book: &Book,
+    run: &Run,
     out: &mut W,
 ) -> Result<(), WriteFault>
-    ensures wrote { Wrote (W.written out.old) (W.written out.new) (report_of book.now.journal) result }
+    requires clients { AreClientsOf run.now.clients.items run.now.book.journal }
+    requires many { length run.now.clients.items ≡ length run.now.names }
+    requires few { length run.now.names < 2 ^ 32 }
+    ensures wrote { Wrote (W.written out.old) (W.written out.new) (report_of run.now.names run.now.book.journal) result }
     ensures cause { HasCauseOf (W.count out.old) (W.count out.new) result WriteFault.Failed }
 {
     let mut buffer = WriteBuffer::new(alloc)?;
-    write_lines(alloc, book, &mut buffer, out)?;
+    write_lines(alloc, run, &mut buffer, out)?;
     buffer.flush(out)?;
     Ok(())
 }
 
 fn write_lines<W: Sink>(
     alloc: Global,
-    book: &Book,
+    run: &Run,
     buffer: &mut WriteBuffer,
     out: &mut W,
 ) -> Result<(), WriteFault>
+    requires clients { AreClientsOf run.now.clients.items run.now.book.journal }
+    requires many { length run.now.clients.items ≡ length run.now.names }
+    requires few { length run.now.names < 2 ^ 32 }
     ensures pushed { (start : Option (List ℕ)) (text : List ℕ) → Delivered start (W.written out.old) buffer.old text
-        → Pushed start (W.written out.new) buffer.new (text ++ report_of book.now.journal) result }
+        → Pushed start (W.written out.new) buffer.new (text ++ report_of run.now.names run.now.book.journal) result }
     ensures cause { HasCauseOf (W.count out.old) (W.count out.new) result WriteFault.Failed }
 {
-    write_entries(alloc, book.journal().as_slice(), buffer, out)?;
-    write_documents(alloc, book, buffer, out)
+    write_entries(alloc, run.book.journal().as_slice(), buffer, out)?;
+    write_documents(alloc, &run.book, buffer, out)?;
+    write_clients(alloc, run, buffer, out)
 }
 
 fn write_entries<W: Sink>(
@@ -100,6 +115,28 @@ fn write_documents<W: Sink>(
     let docs = book.docs();
     for doc in 0..docs {
         write_line(document_line(alloc, book, doc), buffer, out)?;
+    }
+    Ok(())
+}
+
+fn write_clients<W: Sink>(
+    alloc: Global,
+    run: &Run,
+    buffer: &mut WriteBuffer,
+    out: &mut W,
+) -> Result<(), WriteFault>
+    requires clients { AreClientsOf run.now.clients.items run.now.book.journal }
+    requires many { length run.now.clients.items ≡ length run.now.names }
+    requires few { length run.now.names < 2 ^ 32 }
+    ensures pushed { (start : Option (List ℕ)) (text : List ℕ) → Delivered start (W.written out.old) buffer.old text
+        → Pushed start (W.written out.new) buffer.new (text ++ client_lines 0 run.now.names run.now.book.journal) result }
+    ensures cause { HasCauseOf (W.count out.old) (W.count out.new) result WriteFault.Failed }
+{
+    for (n, name) in run.names.as_slice().iter().enumerate() {
+        let Some(client) = run.clients.get(n) else {
+            unreachable!()
+        };
+        write_line(line_of_client(alloc, n as u32, name, client), buffer, out)?;
     }
     Ok(())
 }
@@ -139,4 +176,67 @@ fn document_line(alloc: Global, book: &Book, doc: u32) -> Result<Vec<u8>, AllocE
             v: book.version(doc),
         },
     )
+}
+
+// The line of a client that ever joined, under its session's name; nothing of one that never did.
+fn line_of_client(
+    alloc: Global,
+    number: u32,
+    name: &Name,
+    client: &ShareClient,
+) -> Result<Vec<u8>, AllocError>
+    ensures { IfOk result (λ bytes. bytes.items ≡ client_line_of number name.now client.now.now (end_state_lem client.now.now.state)) }
+{
+    let (Some(state), Some(doc)) = (end_state(client.state()), client.doc()) else {
+        return Ok(Vec::new(alloc));
+    };
+    client_line(
+        alloc,
+        &ClientEnd {
+            b: 0,
+            client: number,
+            doc,
+            flight: flight_of(alloc, client)?,
+            name: name.copy(alloc)?,
+            pending: client.pending().copy(alloc)?,
+            state,
+            text: text_shown(alloc, state, client)?,
+            v: client.version(),
+        },
+    )
+}
+
+fn end_state(state: ClientState) -> Option<EndState>
+    ensures { result ≡ end_state_lem state }
+{
+    match state {
+        ClientState::Away => None,
+        ClientState::Joined => Some(EndState::Joined),
+        ClientState::Left => Some(EndState::Left),
+        ClientState::Stale => Some(EndState::Stale),
+    }
+}
+
+fn flight_of(alloc: Global, client: &ShareClient) -> Result<Option<Op>, AllocError>
+    ensures { IfOk result (λ flight. flight ≡ client.now.now.flight) }
+{
+    match client.flight() {
+        Some(op) => Ok(Some(op.copy(alloc)?)),
+        None => Ok(None),
+    }
+}
+
+// The text that a client shows, and none of one that is stale.
+fn text_shown(
+    alloc: Global,
+    state: EndState,
+    client: &ShareClient,
+) -> Result<Option<Units>, AllocError>
+    ensures { IfOk result (λ text. text ≡ shown_text state client.now.now.text) }
+{
+    match state {
+        EndState::Stale => Ok(None),
+        EndState::Joined => Ok(Some(doc_units(alloc, client.text())?)),
+        EndState::Left => Ok(Some(doc_units(alloc, client.text())?)),
+    }
 }

@@ -1,4 +1,4 @@
-use Rattle.std.proofs.Common.{◌≡◌, ◌∙◌, ℕ, false, length, sym, ap, subst, arith}
+use Rattle.std.proofs.Common.{◌≡◌, ℕ, false, length, sym, subst, arith}
 use Rattle.journal_rules.specs.Documents.{makings, waiting}
 use Rattle.ending_rules.specs.Rounds.{any_below, has_any}
 use Rattle.session_runner.proofs.Rounding.{has_none, has_some, none_more, some_at}

@@ -14,7 +14,7 @@ loop-doc-preserved c =
     record {
       drains = in_order_on DrainsDry c.loop-doc.doc c.args.book.now.journal c.loop-doc.book.journal c.drain_dry.new.book.journal was.drains done.dry;
       free = done.free;
-      unjoined = done.unjoined;
+      stay = λ n. done.stay n ∙ was.stay n;
       makings = done.makings ∙ was.makings;
     }
 

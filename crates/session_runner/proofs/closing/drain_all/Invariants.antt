@@ -2,13 +2,13 @@ use Rattle.std.proofs.Common.{◌≡◌, ℕ, None}
 use Rattle.journal_rules.specs.Documents.{makings}
 use Rattle.turn_rules.specs.Locking.{busy}
 use Rattle.run_rules.specs.Ending.{DrainsDry, InOrder}
-use Rattle.session_runner.specs.Apart.{IsUnjoined}
+use Rattle.session_runner.specs.Clients.{StayAll}
 use Rattle.session_runner.proofs.closing.drain_all.Given as goal
 
 abbrev pub invariant-loop-doc : goal.invariant-loop-doc
 invariant-loop-doc l = record {
   drains : InOrder DrainsDry l.doc l.initial.book.journal l.book.journal;
   free : (doc : ℕ) → busy doc l.book.journal ≡ None;
-  unjoined : IsUnjoined l.book.journal;
+  stay : StayAll l.initial.book.journal l.book.journal;
   makings : makings l.book.journal ≡ makings l.initial.book.journal;
 }

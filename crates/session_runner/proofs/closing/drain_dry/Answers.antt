@@ -1,10 +1,6 @@
-use Rattle.std.proofs.Common.{◌≡◌, ◌∙◌, ℕ, Some, None, [], sym, ap, refl, subst}
-use Rattle.journal_rules.specs.Documents.{waiting}
+use Rattle.std.proofs.Common.{None}
 use Rattle.journal_rules.specs.Locks.{next_token}
-use Rattle.turn_rules.specs.Locking.{busy}
-use Rattle.turn_rules.specs.Turns.{entry_by}
-use Rattle.dispatcher.specs.Draining.{Drained}
-use Rattle.session_runner.proofs.Apart.{many_drained, same_joined, same_makings}
+use Rattle.session_runner.proofs.Apart.{many_drained, same_clients, same_makings}
 use Rattle.session_runner.proofs.Draining.{still_free, never_held}
 use Rattle.session_runner.proofs.Rounding.{dry}
 use Rattle.session_runner.proofs.closing.drain_dry.Goals as goal
@@ -21,10 +17,10 @@ returns-in-Done-clause-dry c = dry c.args.doc c.waiting-most.result c.in-Done.co
 pub returns-in-Done-clause-free : goal.returns-in-Done-clause-free
 returns-in-Done-clause-free c = λ d. still_free None c.args.doc c.in-Done.count c.args.book.now.journal c.drain-end.new.book.journal c.legal.ensures c.in-Done.ensures.drained.0 d (c.requires.free d)
 
-pub returns-in-Done-clause-unjoined : goal.returns-in-Done-clause-unjoined
-returns-in-Done-clause-unjoined c =
+pub returns-in-Done-clause-stay : goal.returns-in-Done-clause-stay
+returns-in-Done-clause-stay c =
     let old = c.args.book.now.journal in let new = c.drain-end.new.book.journal in
-    same_joined (next_token old) old new (many_drained None c.args.doc c.in-Done.count old new c.in-Done.ensures.drained.0) c.requires.unjoined
+    same_clients (next_token old) old new (many_drained None c.args.doc c.in-Done.count old new c.in-Done.ensures.drained.0)
 
 pub returns-in-Done-clause-makings : goal.returns-in-Done-clause-makings
 returns-in-Done-clause-makings c =

@@ -1,23 +1,34 @@
-use Rattle.std.proofs.Common.{◌∙◌, sym}
-use Rattle.session_runner.proofs.Rounding.{ends_rounds, no_rounds, one_round_of}
+use Rattle.std.proofs.Common.{◌≡◌, ◌∙◌, ℕ, true, length, refl, sym, ap, subst}
+use Rattle.ending_rules.specs.Rounds.{needs_round}
+use Rattle.run_rules.specs.Ending.{CatchesUp, InOrder}
+use Rattle.session_runner.proofs.Clients.{all_stay}
+use Rattle.session_runner.proofs.Rounding.{ends_rounds, no_rounds, one_round}
 use Rattle.session_runner.proofs.closing.go_rounds.Goals as goal
 
 pub rounds-init : goal.rounds-init
-rounds-init c = record { free = c.requires.free; unjoined = c.requires.unjoined; goes = λ sessions last rest. rest }
+rounds-init c = record { free = c.requires.free; clients = c.requires.clients; sessions = refl; goes = λ last rest. rest }
+
+pub catch_up_all-requires-clause-clients : goal.catch_up_all-requires-clause-clients
+catch_up_all-requires-clause-clients c = all_stay c.rounds.clients.items c.rounds.book.journal c.drain_all.new.book.journal c.in_ok-drain_all.ensures.stay c.rounds.invariant.clients
 
 pub rounds-preserved : goal.rounds-preserved
 rounds-preserved c =
-    let was = c.rounds.invariant in let done = c.in_ok-drain_all.ensures in
+    let j = c.rounds.book.journal in let mid = c.drain_all.new.book.journal in let k = c.catch_up_all.new.book.journal in
+    let was = c.rounds.invariant in let done = c.in_ok-catch_up_all.ensures in
+    let sessions = length c.args.clients.now.items in
+    let needed : needs_round sessions j ≡ true = ap (λ n. needs_round n j) (sym was.sessions) ∙ sym c.needs_round.ensures ∙ c.if-not-needs_round.false in
     record {
       free = done.free;
-      unjoined = done.unjoined;
-      goes = λ sessions last rest. was.goes sessions last
-          (one_round_of sessions c.rounds.left c.rounds.book.journal c.drain_all.new.book.journal last c.rounds-test.true was.unjoined done.unjoined (sym c.any_waits.ensures ∙ c.if-not-any_waits.false) done.drains rest);
+      clients = done.clients;
+      sessions = done.sessions ∙ was.sessions;
+      goes = λ last rest. was.goes last (one_round sessions c.rounds.left j k last c.rounds-test.true needed
+          (mid, c.in_ok-drain_all.ensures.drains, subst (λ (n : ℕ). InOrder CatchesUp n mid k) was.sessions done.catches) rest);
     }
 
-pub returns : goal.returns
-returns c = λ sessions. c.rounds.invariant.goes sessions c.rounds.book.journal (no_rounds sessions c.rounds.left c.rounds.book.journal c.rounds-test.false)
+pub returns-clause-rounds : goal.returns-clause-rounds
+returns-clause-rounds c = c.rounds.invariant.goes c.rounds.book.journal (no_rounds (length c.args.clients.now.items) c.rounds.left c.rounds.book.journal c.rounds-test.false)
 
-pub returns-then-not-any_waits : goal.returns-then-not-any_waits
-returns-then-not-any_waits c = λ sessions.
-    c.rounds.invariant.goes sessions c.rounds.book.journal (ends_rounds sessions c.rounds.left c.rounds.book.journal c.rounds.invariant.unjoined (sym c.any_waits.ensures ∙ c.if-not-any_waits.true))
+pub returns-then-not-needs_round-clause-rounds : goal.returns-then-not-needs_round-clause-rounds
+returns-then-not-needs_round-clause-rounds c =
+    let j = c.rounds.book.journal in let was = c.rounds.invariant in
+    was.goes j (ends_rounds (length c.args.clients.now.items) c.rounds.left j (ap (λ n. needs_round n j) (sym was.sessions) ∙ sym c.needs_round.ensures ∙ c.if-not-needs_round.true))

@@ -1,16 +1,17 @@
-use Rattle.std.proofs.Common.{◌≡◌, ℕ, List, None}
+use Rattle.std.proofs.Common.{◌≡◌, ℕ, List, length, None}
 use Rattle.journal_entries.specs.declared.act.Entry.{Entry}
 use Rattle.turn_rules.specs.Locking.{busy}
 use Rattle.run_rules.specs.Ending.{Rounds}
-use Rattle.session_runner.specs.Apart.{IsUnjoined}
+use Rattle.session_runner.specs.Clients.{AreClientsOf}
 use Rattle.session_runner.proofs.closing.go_rounds.Given as goal
 
--- no lock keeps seat 0 out, nobody joined, and however the rounds that are left go, the whole goes so
+-- no lock keeps seat 0 out, each session has its client, and however the rounds that are left go, the whole goes so
 abbrev pub invariant-rounds : goal.invariant-rounds
 invariant-rounds l = record {
   free : (doc : ℕ) → busy doc l.book.journal ≡ None;
-  unjoined : IsUnjoined l.book.journal;
-  goes : (sessions : ℕ) (last : List Entry) → Rounds sessions l.left l.book.journal last → Rounds sessions 3 l.initial.book.journal last;
+  clients : AreClientsOf l.clients.items l.book.journal;
+  sessions : length l.clients.items ≡ length l.initial.clients.items;
+  goes : (last : List Entry) → Rounds (length l.initial.clients.items) l.left l.book.journal last → Rounds (length l.initial.clients.items) 3 l.initial.book.journal last;
 }
 
 abbrev pub decreases-rounds : goal.decreases-rounds

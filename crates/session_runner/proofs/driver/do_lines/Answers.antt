@@ -13,7 +13,6 @@ use Rattle.run_rules.specs.Keeping.{Preparations, nothing_kept}
 use Rattle.run_rules.specs.Lines.{Leads, numbered}
 use Rattle.turn_rules.specs.Turns.{Alone}
 use Rattle.book.specs.Shown.{Shown}
-use Rattle.session_runner.specs.Apart.{IsUnjoined}
 use Rattle.session_runner.specs.Fitting.{AreBuilt, AreFit}
 use Rattle.session_runner.specs.Holding.{IsDriver, kept_in}
 use Rattle.session_runner.proofs.Lines.{by_parts, by_rest, empty_driver, kept_none}
@@ -26,14 +25,13 @@ loop-line-init c =
     let none : c.in_ok-driver.driver.book.journal ≡ [] = ap (λ (b : Shown). b.journal) new.book in
     let now = ap clock none ∙ clock-none in
     rw same (record {
-      driver = empty_driver c.in_ok-driver.driver new.book new.nothing;
+      driver = empty_driver c.in_ok-driver.driver new.book new.nothing new.away (new.many ∙ sym new.sessions);
       sessions = new.sessions;
       fit = subst (λ (ms : List Making). AreFit ms c.args.lines.items) (sym (ap makings none ∙ makings-none)) c.requires.fit;
       built = c.requires.built;
       by = c.requires.numbered;
       clock = omega (arith, now);
       closed = ap closed none ∙ closed-none;
-      unjoined = subst IsUnjoined (sym none) (All-nil (λ (e : Entry). joins_below 0 e.act ≡ true));
       count = refl;
       leads = λ last leads. subst (λ (j : List Entry). Leads 0 Alone (numbered 1 c.args.lines.items) nothing_kept j last) none
           (subst (λ (k : Preparations). Leads 0 Alone (numbered 1 c.args.lines.items) k c.in_ok-driver.driver.book.journal last) (kept_none c.in_ok-driver.driver.holds.items new.nothing) leads);
@@ -78,7 +76,6 @@ loop-line-preserved c =
       by = (by_rest c.args.sessions c.in-Some.line c.next.new.self.rest.items by);
       clock = omega (arith, now, cut, sum, tick);
       closed = behind.closed_is ∙ was.closed;
-      unjoined = behind.unjoined was.unjoined;
       count = omega (arith, count, shorter);
       leads = λ last leads. was.leads last (subst (λ (ls : List Line). Leads 0 Alone (numbered c.loop-line.number ls) (kept_in c.loop-line.driver.holds.items) c.loop-line.driver.book.journal last) (sym rest)
           (c.do_line.new.self.book.journal, kept_in c.do_line.new.self.holds.items, done.does, leads));

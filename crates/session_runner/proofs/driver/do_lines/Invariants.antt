@@ -7,7 +7,6 @@ use Rattle.session_lines.specs.Standing.{AreBySessions, moved_by}
 use Rattle.run_rules.specs.Keeping.{nothing_kept}
 use Rattle.run_rules.specs.Lines.{Leads, numbered}
 use Rattle.turn_rules.specs.Turns.{Alone}
-use Rattle.session_runner.specs.Apart.{IsUnjoined}
 use Rattle.session_runner.specs.Fitting.{AreBuilt, AreFit}
 use Rattle.session_runner.specs.Holding.{IsDriver, kept_in}
 use Rattle.session_runner.proofs.driver.do_lines.Given as goal
@@ -22,7 +21,6 @@ invariant-loop-line l = record {
   by : AreBySessions l.fn.sessions l.line-iterator.rest.items;
   clock : clock l.driver.book.journal + sum_by moved_by l.line-iterator.rest.items ≡ sum_by moved_by l.fn.lines.items;
   closed : closed l.driver.book.journal ≡ [];
-  unjoined : IsUnjoined l.driver.book.journal;
   count : l.number + length l.line-iterator.rest.items ≡ 1 + length l.fn.lines.items;
   leads : (last : List Entry) → Leads 0 Alone (numbered l.number l.line-iterator.rest.items) (kept_in l.driver.holds.items) l.driver.book.journal last
       → Leads 0 Alone (numbered 1 l.fn.lines.items) nothing_kept [] last;

@@ -1,4 +1,7 @@
-use Rattle.std.proofs.Common.{arith}
+use Rattle.std.proofs.Common.{◌∙◌, [], ◌∷◌, ◌++◌, None, subst, arith}
+use Rattle.journal_entries.specs.declared.act.Act.TheVariants.{Closed}
+use Rattle.run_rules.specs.Ending.{EndsUnflushed}
+use Rattle.turn_rules.specs.Turns.{entry_by}
 use Rattle.session_runner.proofs.Fitting.{ticks_low}
 use Rattle.session_runner.proofs.ending.run_lines.Goals as goal
 
@@ -9,4 +12,11 @@ pub end_run-requires-clause-low : goal.end_run-requires-clause-low
 end_run-requires-clause-low c = let low = ticks_low c.args.lines.items c.requires.slow in let now = c.in_ok-book.ensures.clock in omega (arith, low, now)
 
 pub returns : goal.returns
-returns c = record { done = c.in_ok-book.book.journal; leads = c.in_ok-book.ensures.leads; ends = c.in_ok-end_run.ensures c.args.sessions }
+returns c =
+    let many = c.in_ok-book.ensures.many in
+    let j = c.in_ok-book.field-0.book.journal in
+    record {
+      follows = record { done = j; leads = c.in_ok-book.ensures.leads; ends = subst (λ n. EndsUnflushed n (j ++ entry_by 0 None (Closed 0) ∷ []) c.end_run.new.book.journal) many c.in_ok-end_run.ensures.ends };
+      clients = c.in_ok-end_run.ensures.clients;
+      many = c.in_ok-end_run.ensures.sessions ∙ many;
+    }

@@ -1,4 +1,4 @@
-use Rattle.session_runner.proofs.Completing.{answers, completes, cut_short, memory_wanting, other_words}
+use Rattle.session_runner.proofs.Completing.{answers, can_be_told, completes, cut_short, done, memory_wanting, other_words}
 use Rattle.session_runner.proofs.run.run_alone.Goals as goal
 
 pub returns-clause-complete : goal.returns-clause-complete
@@ -15,3 +15,9 @@ returns-clause-memory g c = memory_wanting _ _ _ _ c.prepare-ending.result c.pre
 
 pub returns-clause-other_words : goal.returns-clause-other_words
 returns-clause-other_words g c = other_words _ _ _ _ c.prepare-ending.result c.prepare-ending.ensures c.tell.ensures
+
+pub returns-clause-done : goal.returns-clause-done
+returns-clause-done g c = done _ _ _ _ c.prepare-ending.result c.prepare-ending.ensures c.tell.ensures
+
+pub tell-requires : goal.tell-requires
+tell-requires g c = can_be_told _ _ c.prepare-ending.result c.prepare-ending.ensures

@@ -8,7 +8,7 @@ use Rattle.book.specs.Shown.{Shown}
 use Rattle.session_runner.specs.Apart.{IsBehind}
 use Rattle.session_runner.specs.Fitting.{IsFit}
 use Rattle.session_runner.proofs.Apart.{wrote}
-use Rattle.session_runner.proofs.Lines.{apart_behind, apart_raw, behind_doc, behind_tick, both_ok, declined, drained, made, none_found, on_ok, sent, ticked}
+use Rattle.session_runner.proofs.Lines.{apart_behind, apart_raw, behind_doc, behind_tick, both_ok, declined, drained, made, none_found, on_ok, quiet_behind, sent, synced_behind, ticked}
 use Rattle.session_runner.proofs.driver.Driver.do_line.Goals as goal
 
 pub make-requires-clause-new : goal.make-requires-clause-new
@@ -34,12 +34,12 @@ returns-in-Tick-clause-behind c =
     on_ok c.tick.result (λ is. subst (λ (l : Line). IsBehind l old new) (sym c.in-Tick.is) (behind_tick (Some c.args.number) old new c.in-Tick.session c.in-Tick.ms (ap (λ (b : Shown). b.journal) is))) c.tick.ensures
 
 pub returns-in-Some-clause-driver : goal.returns-in-Some-clause-driver
-returns-in-Some-clause-driver c = on_ok c.send.result (λ is. sent c.args.self.now c.send.new.book (Some c.args.number) (clock c.args.self.now.book.journal) _ c.requires.driver is) c.send.ensures
+returns-in-Some-clause-driver c = on_ok c.send_raw.result (λ is. sent c.args.self.now c.send_raw.new.book (Some c.args.number) (clock c.args.self.now.book.journal) _ c.requires.driver is) c.send_raw.ensures
 
 pub returns-in-Some-clause-behind : goal.returns-in-Some-clause-behind
 returns-in-Some-clause-behind c =
-    let old = c.args.self.now.book.journal in let new = c.send.new.book.journal in
-    on_ok c.send.result (λ is. subst (λ (l : Line). IsBehind l old new) (sym c.in-Raw.is) (apart_behind _ (next_token old) old new (λ ms. refl) refl (apart_raw (Some c.args.number) old new (next_token old) (clock old) _ (ap (λ (b : Shown). b.journal) is)))) c.send.ensures
+    let old = c.args.self.now.book.journal in let new = c.send_raw.new.book.journal in
+    on_ok c.send_raw.result (λ is. subst (λ (l : Line). IsBehind l old new) (sym c.in-Raw.is) (apart_behind _ (next_token old) old new (λ ms. refl) refl (apart_raw (Some c.args.number) old new (next_token old) (clock old) _ (ap (λ (b : Shown). b.journal) is)))) c.send_raw.ensures
 
 pub returns-in-Raw-clause-driver : goal.returns-in-Raw-clause-driver
 returns-in-Raw-clause-driver c = on_ok c.decline.result (λ is. declined c.args.self.now c.decline.new.self (Some c.args.number) c.in-Raw.session NoDoc c.requires.driver is) c.decline.ensures.ok
@@ -67,3 +67,38 @@ pub returns-in-Finish-clause-behind : goal.returns-in-Finish-clause-behind
 returns-in-Finish-clause-behind c =
     let old = c.args.self.now.book.journal in let new = c.finish.new.self.book.journal in
     on_ok c.finish.result (λ g. subst (λ (l : Line). IsBehind l old new) (sym c.in-Finish.is) (apart_behind _ 0 old new (λ ms. refl) refl g)) c.finish.ensures.apart
+
+pub returns-in-Join-clause-behind : goal.returns-in-Join-clause-behind
+returns-in-Join-clause-behind c =
+    let old = c.args.self.now.book.journal in let new = c.join.new.self.book.journal in
+    on_ok c.join.result (λ g. subst (λ (l : Line). IsBehind l old new) (sym c.in-Join.is) (quiet_behind _ c.in-Join.session old new (λ ms. refl) refl g)) c.join.ensures.quiet
+
+pub returns-in-Ins-clause-behind : goal.returns-in-Ins-clause-behind
+returns-in-Ins-clause-behind c =
+    let old = c.args.self.now.book.journal in let new = c.edit.new.self.book.journal in
+    on_ok c.edit.result (λ g. subst (λ (l : Line). IsBehind l old new) (sym c.in-Ins.is) (quiet_behind _ c.in-Ins.session old new (λ ms. refl) refl g)) c.edit.ensures.quiet
+
+pub returns-in-Del-clause-behind : goal.returns-in-Del-clause-behind
+returns-in-Del-clause-behind c =
+    let old = c.args.self.now.book.journal in let new = c.edit-in-Del.new.self.book.journal in
+    on_ok c.edit-in-Del.result (λ g. subst (λ (l : Line). IsBehind l old new) (sym c.in-Del.is) (quiet_behind _ c.in-Del.session old new (λ ms. refl) refl g)) c.edit-in-Del.ensures.quiet
+
+pub returns-in-Com-clause-behind : goal.returns-in-Com-clause-behind
+returns-in-Com-clause-behind c =
+    let old = c.args.self.now.book.journal in let new = c.edit-in-Com.new.self.book.journal in
+    on_ok c.edit-in-Com.result (λ g. subst (λ (l : Line). IsBehind l old new) (sym c.in-Com.is) (quiet_behind _ c.in-Com.session old new (λ ms. refl) refl g)) c.edit-in-Com.ensures.quiet
+
+pub returns-in-Send-clause-behind : goal.returns-in-Send-clause-behind
+returns-in-Send-clause-behind c =
+    let old = c.args.self.now.book.journal in let new = c.send.new.self.book.journal in
+    on_ok c.send.result (λ g. subst (λ (l : Line). IsBehind l old new) (sym c.in-Send.is) (quiet_behind _ c.in-Send.session old new (λ ms. refl) refl g)) c.send.ensures.quiet
+
+pub returns-in-Recv-clause-behind : goal.returns-in-Recv-clause-behind
+returns-in-Recv-clause-behind c =
+    let old = c.args.self.now.book.journal in let new = c.receive.new.self.book.journal in
+    on_ok c.receive.result (λ g. subst (λ (l : Line). IsBehind l old new) (sym c.in-Recv.is) (quiet_behind _ c.in-Recv.session old new (λ ms. refl) refl g)) c.receive.ensures.quiet
+
+pub returns-in-Sync-clause-behind : goal.returns-in-Sync-clause-behind
+returns-in-Sync-clause-behind c =
+    let old = c.args.self.now.book.journal in let new = c.sync.new.self.book.journal in
+    on_ok c.sync.result (λ g. subst (λ (l : Line). IsBehind l old new) (sym c.in-Sync.is) (synced_behind _ (next_token old) c.in-Sync.session old new (λ ms. refl) refl g)) c.sync.ensures.goes

@@ -1,4 +1,4 @@
-use Rattle.std.proofs.Common.{◌≡◌, ◌∙◌, ◌∷◌, ◌++◌, ℕ, List, [], Some, None, refl, sym, ap, subst}
+use Rattle.std.proofs.Common.{◌≡◌, ◌∙◌, ◌∷◌, ◌++◌, ℕ, List, length, [], Some, None, refl, sym, ap, subst}
 use Rattle.std.specs.Prelude.{Option}
 use Rattle.expiring_lock.specs.declared.refusal.Stale.{Stale}
 use Rattle.journal_entries.specs.declared.act.Act.TheVariants.{Declined}
@@ -14,6 +14,8 @@ use Rattle.book.specs.declared.faults.Prepared.{Prepared}
 use Rattle.session_runner.specs.Holding.{AreHeld, IsDriver, kept_in}
 use Rattle.session_runner.proofs.Finishing.{finished, finishes, may_release, not_stale, stale_finish, stands}
 use Rattle.session_runner.proofs.Holding.{given_up, kept_set}
+use Rattle.session_runner.proofs.Clients.{added_stays, all_stay, stays_on}
+use Rattle.std.proofs.lemmas.List.{length-set}
 use Rattle.session_runner.proofs.Lines.{declined, on_ok}
 use Rattle.session_runner.proofs.Taking.{stale_why}
 use Rattle.session_runner.proofs.driver.Driver.finish.Goals as goal
@@ -23,7 +25,7 @@ returns-in_default-clause-driver c =
     let holds = c.args.self.now.holds.items in
     on_ok c.decline.result
     (λ is. let d = declined c.args.self.now c.decline.new.self (Some c.args.number) c.args.session Nothing c.requires.driver is in
-    record { alone = d.alone; held = subst (λ (hs : List (Option Prepared)). AreHeld hs c.decline.new.self.journal) (sym c.in_default.ensures.now) (given_up holds c.decline.new.self.journal c.args.session c.requires.session d.held) })
+    record { alone = d.alone; held = subst (λ (hs : List (Option Prepared)). AreHeld hs c.decline.new.self.journal) (sym c.in_default.ensures.now) (given_up holds c.decline.new.self.journal c.args.session c.requires.session d.held); clients = d.clients; many = d.many ∙ sym (ap length c.in_default.ensures.now ∙ length-set holds c.args.session None) })
     c.decline.ensures.ok
 
 pub commit-requires-clause-seat : goal.commit-requires-clause-seat
@@ -53,6 +55,8 @@ returns-in-Ok-clause-driver c = record {
   alone = ap (λ (b : Shown). b.drivers) c.in-Ok-release.ensures.ok.2 ∙ ap (λ (b : Shown). b.drivers) c.in-Ok.ensures.ok.1 ∙ c.requires.driver.alone;
   held = finished (Some c.args.number) c.args.session c.args.self.now c.in-Some.prepared c.requires.driver c.requires.session c.in-Some.ensures.was c.commit.new.self c.in-Ok.ensures.ok.0 c.in-Ok.ensures.ok.1 c.release.new.self c.in-Ok-release.ensures.ok.2
       c.give_up.new.holds.items c.in-Some.ensures.now;
+  clients = all_stay c.args.self.now.clients.items c.args.self.now.book.journal c.release.new.self.journal (stays_on c.args.self.now.book.journal c.commit.new.self.journal c.release.new.self.journal (added_stays c.args.self.now.book c.commit.new.self 0 (Some c.args.number) _ c.in-Ok.ensures.ok.1 refl) (added_stays c.commit.new.self c.release.new.self 0 (Some c.args.number) _ c.in-Ok-release.ensures.ok.2 refl)) c.requires.driver.clients;
+  many = c.requires.driver.many ∙ sym (ap length c.in-Some.ensures.now ∙ length-set c.args.self.now.holds.items c.args.session None);
 }
 
 pub decline-requires-in-Err-Stale : goal.decline-requires-in-Err-Stale
@@ -80,5 +84,5 @@ returns-in-Err-Stale-clause-driver c =
     on_ok c.decline-in-Err-Stale.result
     (λ is. let d = declined c.args.self.now new (Some c.args.number) c.args.session (IsStale c.in-Err-Stale.stale) c.requires.driver
     (is ∙ ap (λ (b : Shown). adds b 0 (Some c.args.number) (Declined c.args.session (IsStale c.in-Err-Stale.stale) ∷ [])) c.in-Err-Stale.ensures.kept) in
-    record { alone = d.alone; held = subst (λ (hs : List (Option Prepared)). AreHeld hs new.journal) (sym c.in-Some.ensures.now) (given_up holds new.journal c.args.session c.requires.session d.held) })
+    record { alone = d.alone; held = subst (λ (hs : List (Option Prepared)). AreHeld hs new.journal) (sym c.in-Some.ensures.now) (given_up holds new.journal c.args.session c.requires.session d.held); clients = d.clients; many = d.many ∙ sym (ap length c.in-Some.ensures.now ∙ length-set holds c.args.session None) })
     c.decline-in-Err-Stale.ensures.ok

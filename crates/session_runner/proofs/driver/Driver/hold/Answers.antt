@@ -1,4 +1,4 @@
-use Rattle.std.proofs.Common.{◌≡◌, ◌∙◌, ◌∷◌, ◌++◌, ℕ, List, [], Some, None, refl, sym, ap, subst}
+use Rattle.std.proofs.Common.{◌≡◌, ◌∙◌, ◌∷◌, ◌++◌, ℕ, List, length, [], Some, None, refl, sym, ap, subst}
 use Rattle.std.specs.Prelude.{Option, option_and_then}
 use Rattle.expiring_lock.specs.declared.refusal.Busy.{Busy as IsBusy}
 use Rattle.dup_check.specs.declared.snapshot.Snapshot.{Snapshot}
@@ -12,7 +12,9 @@ use Rattle.book.specs.Shown.{Shown, adds}
 use Rattle.journal_entries.specs.declared.act.Act.TheVariants.{Declined}
 use Rattle.book.specs.declared.faults.Prepared.{Prepared}
 use Rattle.session_runner.specs.Holding.{AreHeld, kept, kept_in}
-use Rattle.session_runner.proofs.Apart.{wrote}
+use Rattle.session_runner.proofs.Apart.{same_clients, wrote}
+use Rattle.session_runner.proofs.Clients.{all_stay}
+use Rattle.std.proofs.lemmas.List.{length-set}
 use Rattle.session_runner.proofs.Holding.{kept_set, taken_up}
 use Rattle.session_runner.proofs.Lines.{declined, holds_already, holds_taken, holds_unnamed, holds_why, keeps_none, keeps_some, on_ok}
 use Rattle.dispatcher.proofs.Taking.{takes, token_taken}
@@ -73,6 +75,8 @@ returns-in_ok-prepare-in-Ok-clause-driver c =
           (taken_up holds old new session p c.requires.session (keeps_none holds session c.is_kept.result c.requires.session c.is_kept.ensures c.if-is_kept.false)
           (token_taken 0 line doc old new look is was.looks.0 was.looks.2 ∙ ap (λ (l : Snapshot). l.token) (sym look_is)) c.requires.driver.held (returns-in_ok-prepare-in-Ok-clause-apart c)
           (stands_taken 0 line doc old new look is was.looks.0 was.looks.2 p look_is refl was.free was.cached c.in_ok-prepare-in-Ok.ensures.decided));
+      clients = all_stay c.args.self.now.clients.items old new (same_clients (next_token old) old new (returns-in_ok-prepare-in-Ok-clause-apart c)) c.requires.driver.clients;
+      many = c.requires.driver.many ∙ sym (ap length c.keep.ensures ∙ length-set holds session (Some p));
     }
 
 pub returns-in-Err-Empty-clause-holds : goal.returns-in-Err-Empty-clause-holds

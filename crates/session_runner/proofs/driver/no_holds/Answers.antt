@@ -2,10 +2,10 @@ use Rattle.std.proofs.Common.{◌≡◌, ◌≤◌, ◌∷◌, List, [], length,
 use Rattle.std.specs.Prelude.{Option}
 use Rattle.std.proofs.lemmas.List.Elements.{All-append, All-cons, All-nil}
 use Rattle.book.specs.declared.faults.Prepared.{Prepared}
-use Rattle.session_runner.proofs.driver.Driver.new.Goals as goal
+use Rattle.session_runner.proofs.driver.no_holds.Goals as goal
 
-pub returns-clause-sessions : goal.returns-clause-sessions
-returns-clause-sessions c =
+pub returns-clause-many : goal.returns-clause-many
+returns-clause-many c =
     let was = c.filling.invariant.0 in let full = c.filling-test.false in let len = c.len.ensures in omega (arith, was, full, len)
 
 pub filling-init : goal.filling-init

@@ -1,5 +1,5 @@
 use Rattle.std.proofs.Common.{◌≡◌, ◌≤◌, ◌-◌, length, All, None}
-use Rattle.session_runner.proofs.driver.Driver.new.Given as goal
+use Rattle.session_runner.proofs.driver.no_holds.Given as goal
 
 abbrev pub invariant-filling : goal.invariant-filling
 invariant-filling l = (length l.holds.items ≤ l.initial.sessions) × All (λ kept. kept ≡ None) l.holds.items

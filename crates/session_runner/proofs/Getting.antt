@@ -1,0 +1,75 @@
+-- Getting mail, one message after the other.
+use Rattle.std.proofs.Common.{◌≡◌, ℕ, zero, suc, ◌<◌, List, [], ◌∷◌, ◌++◌, length, true, false, true≢false, refl, sym, ap, ap₂, ◌∙◌, subst, arith, eq-eqb}
+use Rattle.std.specs.Prelude.{slice_get, Option, Some, None, IfSome, is_some}
+use Rattle.journal_entries.specs.declared.message.Msg.{Msg}
+use Rattle.journal_entries.specs.declared.act.Act.TheVariants.{Got}
+use Rattle.journal_entries.specs.declared.act.Entry.{Entry}
+use Rattle.journal_rules.specs.Legal.{brief_of}
+use Rattle.journal_rules.specs.Mail.{mail}
+use Rattle.ending_rules.proofs.Refusals.{got_mail}
+use Rattle.turn_rules.specs.Turns.{Alone, entry_by}
+use Rattle.run_rules.specs.Lines.{Gets}
+use Rattle.book.specs.Shown.{Shown, adds}
+use Rattle.share_client.specs.Clients.{Numbered}
+use Rattle.session_runner.specs.Clients.{GoesQuietly}
+use Rattle.session_runner.proofs.Lists.{same_item}
+use Rattle.session_runner.proofs.Quiet.{quiet_one}
+
+-- ---- the first of a list
+first_is : (ms : List Msg) (m : Msg) → Some m ≡ slice_get ms 0 → (rest : List Msg) × (ms ≡ m ∷ rest)
+first_is [] m is = absurd (cc)
+first_is (x ∷ xs) m is = (xs, ap (λ n. n ∷ xs) (sym (same_item m x is)))
+
+no_first : (ms : List Msg) → None ≡ slice_get ms 0 → ms ≡ []
+no_first [] is = refl
+no_first (x ∷ xs) is = absurd (cc)
+
+-- ---- one message more
+there : (o : Option Msg) → is_some o ≡ true → (m : Msg) × (o ≡ Some m)
+there (Some m) some = (m, refl)
+there None some = absurd (true≢false (sym some))
+
+some_of : (P : Msg → Type 0) (o : Option Msg) (m : Msg) → o ≡ Some m → IfSome o P → P m
+some_of P o m is held = subst (λ (p : Option Msg). IfSome p P) is held
+
+module _ (seat : ℕ) (line : Option ℕ) (was now : Numbered) (left last : Shown) (o : Option Msg) (own : seat ≡ 0) (same : now.client ≡ was.client) (some : is_some o ≡ true) (first : o ≡ slice_get (mail now.client left.journal) 0)
+    (got : IfSome o (λ msg. last ≡ adds left seat line (Got now.client (brief_of msg) ∷ []))) where
+  abbrev m : Msg
+  m = (there o some).0
+
+  is : o ≡ Some m
+  is = (there o some).1
+
+  abbrev its : Entry
+  its = entry_by 0 line (Got was.client (brief_of m))
+
+  first_one : (rest : List Msg) × (mail was.client left.journal ≡ m ∷ rest)
+  first_one = first_is (mail was.client left.journal) m (sym is ∙ first ∙ ap (λ n. slice_get (mail n left.journal) 0) same)
+
+  one_more : last.journal ≡ left.journal ++ its ∷ []
+  one_more =
+      ap (λ (b : Shown). b.journal) (some_of (λ msg. last ≡ adds left seat line (Got now.client (brief_of msg) ∷ [])) o m is got)
+      ∙ ap₂ (λ (s n : ℕ). left.journal ++ entry_by s line (Got n (brief_of m)) ∷ []) own same
+
+  pub less_mail : length (mail was.client last.journal) < length (mail was.client left.journal)
+  less_mail =
+      let rest = ap (λ (l : List Entry). length (mail was.client l)) one_more ∙ ap length (got_mail was.client left.journal its (brief_of m) m first_one.0 refl first_one.1) in
+      let all = ap length first_one.1 in
+      omega (arith, rest, all)
+
+  pub gets_first : (end : List Entry) → Gets (entry_by 0 line) Alone was.client last.journal end → Gets (entry_by 0 line) Alone was.client left.journal end
+  gets_first end rest = (suc rest.0, (last.journal, (left.journal, its ∷ [], refl, (m, first_one.0, first_one.1, refl), one_more), rest.1))
+
+  pub gets_quietly : GoesQuietly was.client left.journal last.journal
+  gets_quietly = quiet_one was.client left.journal last.journal its one_more (record { own = refl; quiet = refl; its = eq-eqb was.client was.client refl })
+
+  pub gets_alone : last.drivers ≡ left.drivers
+  gets_alone = ap (λ (b : Shown). b.drivers) (some_of (λ msg. last ≡ adds left seat line (Got now.client (brief_of msg) ∷ [])) o m is got)
+
+-- and none more
+pub not_there : {A : Type 0} (o : Option A) → is_some o ≡ false → o ≡ None
+not_there None none = refl
+not_there (Some x) none = absurd (true≢false none)
+
+pub gets_none : (line : Option ℕ) (c : ℕ) (j k : List Entry) (o : Option Msg) → is_some o ≡ false → o ≡ slice_get (mail c j) 0 → k ≡ j → Gets (entry_by 0 line) Alone c j k
+gets_none line c j k o none first same = (zero, (same, ap (mail c) same ∙ no_first (mail c j) (sym (not_there o none) ∙ first)))

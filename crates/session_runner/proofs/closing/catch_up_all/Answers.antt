@@ -1,0 +1,42 @@
+use Rattle.std.proofs.Common.{◌≡◌, ◌∙◌, List, refl, sym, subst, arith, get_or}
+use Rattle.std.specs.Prelude.{slice_get, Some}
+use Rattle.std.proofs.lemmas.List.{length-set}
+use Rattle.std.proofs.lemmas.Option.{slice_get-get_or}
+use Rattle.run_rules.specs.Ending.{CatchesUp}
+use Rattle.share_client.specs.Clients.{Numbered}
+use Rattle.session_runner.specs.Clients.{AreClientsOf, StayOthers}
+use Rattle.session_runner.proofs.Clients.{one_moves}
+use Rattle.session_runner.proofs.Quiet.{quiet_others}
+use Rattle.session_runner.proofs.Rounding.{in_order_on, quiet_free}
+use Rattle.session_runner.proofs.closing.catch_up_all.Goals as goal
+
+pub loop-client-init : goal.loop-client-init
+loop-client-init c = record {
+  catches = refl;
+  free = c.requires.free;
+  clients = subst (λ (l : List Numbered). AreClientsOf l c.args.book.now.journal) (sym c.deref_mut-client-items.ensures.value) c.requires.clients;
+  sessions = refl;
+}
+
+pub catch_up-requires : goal.catch_up-requires
+catch_up-requires c =
+    let items = c.loop-client.client-items in let at = c.loop-client.client-index in
+    let was = c.loop-client.invariant in let low = c.loop-client-test.true in let many = was.sessions in
+    let item = get_or items at c.client-item.result in
+    (was.clients.each at item (slice_get-get_or items at c.client-item.result (omega (arith, low, many)))).1
+
+pub loop-client-preserved : goal.loop-client-preserved
+loop-client-preserved c =
+    let j = c.loop-client.book.journal in let k = c.catch_up.new.book.journal in
+    let items = c.loop-client.client-items in let at = c.loop-client.client-index in
+    let was = c.loop-client.invariant in let low = c.loop-client-test.true in let many = was.sessions in
+    let item = get_or items at c.client-item.result in
+    let there : slice_get items at ≡ Some item = slice_get-get_or items at c.client-item.result (omega (arith, low, many)) in
+    let own = (was.clients.each at item there).0 in
+    let done = c.in_ok-catch_up.ensures in
+    record {
+      catches = in_order_on CatchesUp at c.args.book.now.journal j k was.catches (subst (λ n. CatchesUp n j k) own done.catches);
+      free = λ d. quiet_free item.client j k done.quiet d (was.free d);
+      clients = one_moves items at item c.catch_up.new.client j k there done.client (subst (λ n. StayOthers n j k) own (quiet_others item.client j k done.quiet)) was.clients;
+      sessions = length-set items at c.catch_up.new.client ∙ was.sessions;
+    }

@@ -1,0 +1,42 @@
+use Rattle.std.proofs.Common.{ℕ, ◌∙◌, sym, ap, subst, refl}
+use Rattle.std.specs.Prelude.{slice_get}
+use Rattle.journal_rules.specs.Mail.{mail}
+use Rattle.turn_rules.specs.Turns.{Alone, entry_by}
+use Rattle.run_rules.specs.Lines.{Gets}
+use Rattle.book.specs.Shown.{Shown}
+use Rattle.session_runner.proofs.Getting.{gets_alone, gets_first, gets_none, gets_quietly, less_mail, not_there}
+use Rattle.session_runner.proofs.Quiet.{quiet_none, quiet_on}
+use Rattle.session_runner.proofs.mail.receive_all.Goals as goal
+
+pub getting-init : goal.getting-init
+getting-init c = record {
+  goes = λ last rest. rest;
+  client = record { client_is = refl; stands = c.requires.client };
+  quiet = quiet_none c.args.client.now.client c.args.book.now.journal c.args.book.now.journal refl;
+  drivers = refl;
+}
+
+pub getting-smaller : goal.getting-smaller
+getting-smaller c =
+    let was = c.getting.invariant in let got = c.in_ok-receive.ensures in
+    less_mail c.args.by.seat c.args.by.line c.args.client.now c.getting.client c.getting.book c.receive.new.self c.in_ok-receive.field-0 c.requires.seat was.client.client_is (sym c.is_some.ensures ∙ c.if-is_some.true) got.first got.got
+
+pub getting-preserved : goal.getting-preserved
+getting-preserved c =
+    let was = c.getting.invariant in let got = c.in_ok-receive.ensures in
+    record {
+      goes = λ last rest. was.goes last (gets_first c.args.by.seat c.args.by.line c.args.client.now c.getting.client c.getting.book c.receive.new.self c.in_ok-receive.field-0 c.requires.seat was.client.client_is (sym c.is_some.ensures ∙ c.if-is_some.true) got.first got.got last rest);
+      client = record { client_is = got.client.client_is ∙ was.client.client_is; stands = got.client.stands };
+      quiet = quiet_on c.args.client.now.client c.args.book.now.journal c.getting.book.journal c.receive.new.self.journal was.quiet
+          (gets_quietly c.args.by.seat c.args.by.line c.args.client.now c.getting.client c.getting.book c.receive.new.self c.in_ok-receive.field-0 c.requires.seat was.client.client_is (sym c.is_some.ensures ∙ c.if-is_some.true) got.first got.got);
+      drivers = gets_alone c.args.by.seat c.args.by.line c.args.client.now c.getting.client c.getting.book c.receive.new.self c.in_ok-receive.field-0 c.requires.seat was.client.client_is (sym c.is_some.ensures ∙ c.if-is_some.true) got.first got.got ∙ was.drivers;
+    }
+
+pub returns-clause-gets : goal.returns-clause-gets
+returns-clause-gets c =
+    let was = c.getting.invariant in let got = c.in_ok-receive.ensures in
+    let none = sym c.is_some.ensures ∙ c.if-is_some.false in
+    let same = ap (λ (b : Shown). b.journal) (got.none (not_there c.in_ok-receive.field-0 none)).0 in
+    subst (λ (s : ℕ). Gets (entry_by s c.args.by.line) Alone c.args.client.now.client c.args.book.now.journal c.receive.new.self.journal) (sym c.requires.seat)
+    (was.goes c.receive.new.self.journal (gets_none c.args.by.line c.args.client.now.client c.getting.book.journal c.receive.new.self.journal c.in_ok-receive.field-0 none
+    (got.first ∙ ap (λ n. slice_get (mail n c.getting.book.journal) 0) was.client.client_is) same))

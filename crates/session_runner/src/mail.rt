@@ -1,0 +1,28 @@
+//! A client gets its mail.
+
+ghost use Rattle.std.specs.Prelude.{◌≡◌, OnOk};
+ghost use Rattle.book.specs.Roomed.{IsClientAfter, IsClientOf};
+ghost use Rattle.run_rules.specs.Lines.{Gets};
+ghost use Rattle.turn_rules.specs.Turns.{Alone, entry_by};
+ghost use Rattle.session_runner.specs.Clients.{GoesQuietly};
+
+use book::{Book, By};
+use share_client::ShareClient;
+use std::alloc::AllocError;
+
+/// A client gets all of its mail, one message after the other. The only error is want of memory.
+pub(crate) fn receive_all(
+    book: &mut Book,
+    client: &mut ShareClient,
+    by: By,
+) -> Result<(), AllocError>
+    requires client { IsClientOf book.old.journal client.old }
+    requires seat { by.seat ≡ 0 }
+    ensures gets { OnOk result (Gets (entry_by by.seat by.line) Alone client.old.client book.old.journal book.new.journal) }
+    ensures client { OnOk result (IsClientAfter book.new.journal client.old client.new) }
+    ensures quiet { OnOk result (GoesQuietly client.old.client book.old.journal book.new.journal) }
+    ensures drivers { OnOk result (book.new.drivers ≡ book.old.drivers) }
+{
+    'getting: while book.receive(by, client)?.is_some() {}
+    Ok(())
+}
