@@ -30,8 +30,8 @@ use crate::syncing::sync_client;
 use book::{
     AcquireFault, Book, By, CommitFault, MakeFault, Prepared, RawFault, RawUpdate, TickFault,
 };
-use dispatcher::{DrainEnd, drain, prepare};
 use client_lines::join_named;
+use dispatcher::{DrainEnd, drain, prepare};
 use journal_entries::Why;
 use ot_units::{Name, Units};
 use session_lines::Line;

@@ -14,9 +14,9 @@ ghost use Rattle.run_rules.specs.Report.{client_line_of, client_lines, end_state
 use crate::ending::Run;
 use book::Book;
 use journal_entries::Entry;
-use ot_text::doc_units;
 use journal_rules::ClientState;
 use ot_op::Op;
+use ot_text::doc_units;
 use ot_units::{Name, Units};
 use report_text::{ClientEnd, DocEnd, EndState, client_line, doc_line, entry_line};
 use share_client::ShareClient;
@@ -51,11 +51,7 @@ impl From<AllocError> for WriteFault {
 }
 
 /// Writes the report line by line. Its memory doesn't grow with the report.
-pub(crate) fn write_report<W: Sink>(
-    alloc: Global,
-    run: &Run,
-    out: &mut W,
-) -> Result<(), WriteFault>
+pub(crate) fn write_report<W: Sink>(alloc: Global, run: &Run, out: &mut W) -> Result<(), WriteFault>
     requires clients { AreClientsOf run.now.clients.items run.now.book.journal }
     requires many { length run.now.clients.items ≡ length run.now.names }
     requires few { length run.now.names < 2 ^ 32 }
