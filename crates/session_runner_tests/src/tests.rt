@@ -333,6 +333,77 @@ fn says_why_it_does_nothing(rt: HostRuntime) -> Result<(), Fail> {
 }
 
 #[test]
+fn clients_see_what_others_type(rt: HostRuntime) -> Result<(), Fail> {
+    // a client types while another's update waits
+    check(
+        &rt,
+        rt.alloc(),
+        "run",
+        0,
+        &[
+            "{'do':'doc','doc':'a','project':'p','text':'abc'}",
+            "{'do':'join','as':'c','doc':'a','user':'u'}",
+            "{'as':'w','do':'raw','doc':'a','op':[{'d':'b','p':1}],'source':1,'user':'u','v':0}",
+            "{'do':'ins','as':'c','p':1,'s':'X'}",
+            "{'do':'send','as':'c'}",
+            "{'do':'sync','as':'c'}",
+        ],
+        &[
+            "{'b':0,'base':0,'doc':0,'e':'made','line':1,'n':0,'name':'a','project':'p','seat':0,'text':'abc'}",
+            "{'b':0,'client':0,'doc':0,'e':'joined','from':null,'line':2,'n':1,'seat':0,'source':1000001,'track':false,'user':'u','v':0}",
+            "{'b':0,'client':null,'doc':0,'dup':[],'e':'sent','line':3,'ms':0,'n':2,'number':0,'op':[{'d':'b','p':1}],'seat':0,'source':1,'track':false,'user':'u','v':0}",
+            "{'b':0,'client':0,'e':'edited','line':4,'n':3,'op':[{'i':'X','p':1}],'seat':0}",
+            "{'b':0,'client':0,'doc':0,'dup':[],'e':'sent','line':5,'ms':0,'n':4,'number':1,'op':[{'i':'X','p':1}],'seat':0,'source':1000001,'track':false,'user':'u','v':0}",
+            "{'b':0,'doc':0,'e':'acquired','line':6,'n':5,'seat':0,'token':1,'until':30000}",
+            "{'b':0,'doc':0,'e':'committed','line':6,'n':6,'op':[{'d':'b','p':1}],'out':'applied','seat':0,'ticket':2,'token':1,'v':0}",
+            "{'b':0,'doc':0,'e':'released','line':6,'n':7,'seat':0,'token':1}",
+            "{'b':0,'doc':0,'e':'acquired','line':6,'n':8,'seat':0,'token':2,'until':30000}",
+            "{'b':0,'doc':0,'e':'committed','line':6,'n':9,'op':[{'i':'X','p':1}],'out':'applied','seat':0,'ticket':4,'token':2,'v':1}",
+            "{'b':0,'doc':0,'e':'released','line':6,'n':10,'seat':0,'token':2}",
+            "{'b':0,'client':0,'e':'got','line':6,'msg':'op','n':11,'seat':0,'v':0}",
+            "{'b':0,'client':0,'e':'got','line':6,'msg':'ack','n':12,'seat':0,'v':1}",
+            "{'b':0,'driver':0,'e':'closed','line':null,'n':13,'seat':0}",
+            "{'b':0,'e':'ticked','line':null,'ms':30000,'n':14,'seat':0}",
+            "{'b':0,'changes':[],'comments':[],'doc':0,'e':'doc','kept':null,'name':'a','text':'aXc','v':2}",
+            "{'b':0,'client':0,'doc':0,'e':'client','flight':null,'name':'c','pending':[],'state':'joined','text':'aXc','v':2}",
+        ],
+    )?;
+    Ok(())
+}
+
+#[test]
+fn clients_are_told_why_nothing_is_done(rt: HostRuntime) -> Result<(), Fail> {
+    // sending before joining, typing past the end, sending and receiving nothing
+    check(
+        &rt,
+        rt.alloc(),
+        "run",
+        0,
+        &[
+            "{'do':'doc','doc':'a','project':'p','text':'ab'}",
+            "{'as':'c','do':'send'}",
+            "{'as':'c','do':'join','doc':'a','user':'u'}",
+            "{'as':'c','do':'ins','p':3,'s':'z'}",
+            "{'as':'c','do':'send'}",
+            "{'as':'c','do':'recv'}",
+        ],
+        &[
+            "{'b':0,'base':0,'doc':0,'e':'made','line':1,'n':0,'name':'a','project':'p','seat':0,'text':'ab'}",
+            "{'b':0,'e':'declined','line':2,'n':1,'seat':0,'session':0,'why':'not-joined'}",
+            "{'b':0,'client':0,'doc':0,'e':'joined','from':null,'line':3,'n':2,'seat':0,'source':1000002,'track':false,'user':'u','v':0}",
+            "{'b':0,'e':'declined','len':2,'line':4,'n':3,'seat':0,'session':0,'why':'past-end'}",
+            "{'b':0,'e':'declined','line':5,'n':4,'seat':0,'session':0,'why':'nothing'}",
+            "{'b':0,'e':'declined','line':6,'n':5,'seat':0,'session':0,'why':'empty'}",
+            "{'b':0,'driver':0,'e':'closed','line':null,'n':6,'seat':0}",
+            "{'b':0,'e':'ticked','line':null,'ms':30000,'n':7,'seat':0}",
+            "{'b':0,'changes':[],'comments':[],'doc':0,'e':'doc','kept':null,'name':'a','text':'ab','v':0}",
+            "{'b':0,'client':0,'doc':0,'e':'client','flight':null,'name':'c','pending':[],'state':'joined','text':'ab','v':0}",
+        ],
+    )?;
+    Ok(())
+}
+
+#[test]
 fn drains_what_waits(rt: HostRuntime) -> Result<(), Fail> {
     // A line drains both that wait, in the order in which they were sent
     check(
@@ -410,7 +481,7 @@ fn names_faulty_lines_and_words(rt: HostRuntime) -> Result<(), Fail> {
         3,
         &[
             "{'do':'doc','doc':'a','project':'p','text':'ab'}",
-            "{'as':'w','do':'join','doc':'a','user':'u'}",
+            "{'as':'w','do':'leave'}",
         ],
         &["fault: line 2 unbuilt"],
     )?;
