@@ -12,6 +12,7 @@ pub mod Keeping
 pub mod Roomed
 pub mod Serving
 pub mod Sending
+pub mod Rejoining
 pub mod Booking
 pub mod Locking
 pub mod Fenced

@@ -29,7 +29,7 @@ same_decision false false true x y z w same = refl
 same_decision false false false x y z w same = same refl refl refl
 
 -- a window that reaches back to a version has what passed since
-passed_is : (d v : ℕ) (window : Recent) (j : List Entry) → IsWindowOf d window j → nat_lt window.version v ≡ false → nat_lt v window.base ≡ false → nat_lt (v + 100) window.version ≡ false → passed_by window v ≡ passed_since d v j
+pub passed_is : (d v : ℕ) (window : Recent) (j : List Entry) → IsWindowOf d window j → nat_lt window.version v ≡ false → nat_lt v window.base ≡ false → nat_lt (v + 100) window.version ≡ false → passed_by window v ≡ passed_since d v j
 passed_is d v window j is below above recent =
     let low : window.base ≤ v = ltb-false v window.base above in
     let high : v ≤ window.version = ltb-false window.version v below in

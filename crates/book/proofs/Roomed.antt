@@ -251,6 +251,14 @@ roomed_left rooms rooms' j e client legal is moves were c = by (eqb_tells client
         there_by (member c rooms) (member c rooms') (placed c j) (placed c k) k (moves.others c (λ h. t.1 (sym h))) (next ∙ ap (λ b. if b then None else placed c j) t.0)
         (there_kept (member c rooms) (placed c j) j k less (were c))
 
+-- ---- a client that had left, and was put into a room, is taken out of it again
+pub roomed_again : (rooms mid rooms' : Roomed) (j : List Entry) (client doc source room : ℕ) → placed client j ≡ None → Joins client doc source room rooms mid → Moves client None mid rooms' → AreRoomed rooms j → AreRoomed rooms' j
+roomed_again rooms mid rooms' j client doc source room gone joins moves were c = by (eqb_tells client c)
+  where
+    by : ((eqb client c ≡ true) × (client ≡ c)) ⊎ ((eqb client c ≡ false) × (client ≢ c)) → IsThere (member c rooms') (placed c j) j
+    by (inl t) = there_by None (member c rooms') None (placed c j) j (ap (λ n. member n rooms') (sym t.1) ∙ moves.changed) (ap (λ n. placed n j) (sym t.1) ∙ gone) tt
+    by (inr t) = there_by (member c rooms) (member c rooms') (placed c j) (placed c j) j (moves.others c (λ h. t.1 (sym h)) ∙ joins.2.others c (λ h. t.1 (sym h))) refl (were c)
+
 -- ---- a client gets its first message
 rest_is : (l : List ℕ) → rest_of l ≡ drop 1 l
 rest_is [] = refl

@@ -33,6 +33,8 @@ use Rattle.share_client.specs.declared.edit.Edit.{Edit}
 use Rattle.share_client.specs.declared.edit.Edit.TheVariants.{Insert, Delete, Comment}
 use Rattle.share_client.specs.declared.edit.EditFault.TheVariants.{NotJoined, PastEnd, Full}
 use Rattle.share_client.specs.declared.send.SendFault.TheVariants as send
+use Rattle.share_client.specs.declared.returning.Missed.{Missed}
+use Rattle.share_client.specs.Returning.{with_all}
 use Rattle.share_client.specs.Edits.{IsEdit, edit_comp, edit_end, edit_fault, full_fault}
 use Rattle.turn_rules.specs.Clients.{is_joined}
 use Rattle.book.specs.Roomed.{IsClientAfter, IsClientOf}
@@ -72,6 +74,13 @@ joined_client j k e was now doc user track source v here more is at text_is own 
 pub left_client : (j k : List Entry) (e : Entry) (was now : Numbered) → k ≡ j ++ e ∷ [] → e.act ≡ LeftAct was.client → IsClientOf j was → now ≡ record was { now = rules.left_by was.now } → IsClientAfter k was now
 left_client j k e was now more is own now_is = client_after j k e was now (rules.left_by was.now) more (ap (λ a. client_by was.client j a was.now) is ∙ if_own was.client (rules.left_by was.now) was.now) own now_is
 
+pub returned_client : (j k : List Entry) (e : Entry) (was now : Numbered) (source v : ℕ) (missed : List Missed) → k ≡ j ++ e ∷ [] → e.act ≡ JoinedAct was.client was.now.doc was.now.user was.now.track (Some was.now.version) source v
+    → rules.caught_up was.now (rules.items_between was.now.doc was.now.version v j) ≡ with_all was.now missed → IsClientOf j was → now ≡ record was { now = rules.back_under source (with_all was.now missed) } → IsClientAfter k was now
+returned_client j k e was now source v missed more is caught own now_is =
+    client_after j k e was now (rules.back_under source (with_all was.now missed)) more
+    (ap (λ a. client_by was.client j a was.now) is ∙ if_own was.client (rules.joined_by was.now j was.now.doc was.now.user was.now.track (Some was.now.version) source v) was.now
+    ∙ ap (rules.back_under source) caught) own now_is
+
 -- it is the journal's client still, where nothing was written
 pub same_client : (j k : List Entry) (was now : Numbered) → k ≡ j → IsClientOf j was → now ≡ was → IsClientAfter k was now
 same_client j k was now same own is = record {
@@ -80,7 +89,7 @@ same_client j k was now same own is = record {
 }
 
 -- ---- edits
-joined_if : (st : ClientState) → not (is_joined st) ≡ false → st ≡ Joined
+pub joined_if : (st : ClientState) → not (is_joined st) ≡ false → st ≡ Joined
 joined_if Joined e = refl
 joined_if Away e = absurd (cc)
 joined_if Left e = absurd (cc)
@@ -92,7 +101,7 @@ record Unrefused (s : rules.Client) (edit : Edit) : Type 0 where
   few : length (appended s.pending (edit_comp s.text edit)) ≤ MAX_COMPONENTS
   short : units (appended s.pending (edit_comp s.text edit)) ≤ MAX_OPERATION_UNITS
 
-first_none : {F : Type 0} (b : Bool) (f : F) (rest : Option F) → (if b then Some f else rest) ≡ None → (b ≡ false) × (rest ≡ None)
+pub first_none : {F : Type 0} (b : Bool) (f : F) (rest : Option F) → (if b then Some f else rest) ≡ None → (b ≡ false) × (rest ≡ None)
 first_none true f rest e = absurd (cc)
 first_none false f rest e = (refl, e)
 

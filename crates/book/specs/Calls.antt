@@ -1,5 +1,5 @@
 -- When the calls of a book refuse, and what they make.
-use Rattle.std.specs.Prelude.{◌≡◌, ℕ, ◌+◌, ◌<◌, ◌≤◌, ◌⊎◌, ◌==◌, true, false, nat_lt, List, [], ◌∷◌, length, Option, Some, None, Result, Ok, Err, option_map, if◌then◌else◌}
+use Rattle.std.specs.Prelude.{◌≡◌, ◌≢◌, ℕ, ◌+◌, ◌<◌, ◌≤◌, ◌⊎◌, ◌==◌, true, false, nat_lt, List, [], ◌∷◌, length, Option, Some, None, Result, Ok, Err, option_map, if◌then◌else◌}
 use Rattle.ot_op.specs.declared.comp.Comp.{Comp}
 use Rattle.ot_op.specs.declared.fault.FormFault.{FormFault}
 use Rattle.expiring_lock.specs.Locks.{LockState}
@@ -12,11 +12,14 @@ use Rattle.journal_entries.specs.declared.update.Cause.TheVariants.{Memory as Wa
 use Rattle.journal_entries.specs.declared.act.Act.{Act}
 use Rattle.journal_entries.specs.declared.act.Act.TheVariants.{Sent, Malformed}
 use Rattle.journal_entries.specs.declared.act.Entry.{Entry}
-use Rattle.journal_rules.specs.Documents.{IsMade, is_in, makings, waiting}
+use Rattle.journal_rules.specs.Client.{Client}
+use Rattle.journal_rules.specs.Deciding.{greatest_age}
+use Rattle.journal_rules.specs.Documents.{IsMade, is_in, makings, version, waiting}
 use Rattle.journal_rules.specs.Keeping.{FailedUnder, loading}
 use Rattle.journal_rules.specs.Locks.{Holds, clock, used}
 use Rattle.journal_rules.specs.Legal.{clock_end}
 use Rattle.journal_rules.specs.declared.state.ClientState.{ClientState}
+use Rattle.journal_rules.specs.declared.state.ClientState.TheVariants.{Left}
 use Rattle.turn_rules.specs.Clients.{is_present}
 use Rattle.turn_rules.specs.Locking.{busy, staleness}
 use Rattle.book.specs.declared.faults.MakeFault.{MakeFault}
@@ -72,6 +75,18 @@ ticket_of_raw (Err fault) at = None
 abbrev pub MayNotJoin : ℕ → List Entry → JoinFault → Type 0
 MayNotJoin doc journal join.NoDoc = length (makings journal) ≤ doc
 MayNotJoin doc journal join.Memory = IsMade doc journal
+MayNotJoin doc journal _ = ⊥
+
+-- ---- rejoin
+-- a client that left may come back where its version is within reach
+abbrev pub MayReturn : Client → List Entry → Type 0
+MayReturn c journal = (c.state ≡ Left) × (version c.doc journal ≤ c.version + greatest_age)
+
+abbrev pub MayNotRejoin : Client → List Entry → JoinFault → Type 0
+MayNotRejoin c journal join.NoDoc = ⊥
+MayNotRejoin c journal join.NotLeft = c.state ≢ Left
+MayNotRejoin c journal (join.TooOld have) = (c.state ≡ Left) × (c.version + greatest_age < have) × (have ≡ version c.doc journal)
+MayNotRejoin c journal join.Memory = MayReturn c journal
 
 -- ---- leave
 abbrev pub MayNotLeave : ClientState → LeaveFault → Type 0

@@ -77,6 +77,11 @@ pub enum RawFault {
 pub enum JoinFault {
     /// The document wasn't made.
     NoDoc,
+    /// The client would come back, and hasn't left.
+    NotLeft,
+    /// The client would come back, and its version is more than 100 below the document's, which is
+    /// `have`.
+    TooOld { have: u64 },
     Memory,
 }
 

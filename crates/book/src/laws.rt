@@ -1,6 +1,6 @@
-//! What is true of looks. The functions here do nothing: their contracts are the laws.
+//! What is true of books, of their clients and of looks. The functions here do nothing: their contracts are the laws.
 
-ghost use Rattle.std.specs.Prelude.{◌≡◌, List, ◌++◌, None, All};
+ghost use Rattle.std.specs.Prelude.{◌≡◌, List, ◌++◌, true, None, All};
 ghost use Rattle.dup_check.specs.declared.snapshot.Snapshot.{Snapshot};
 ghost use Rattle.dup_check.specs.declared.snapshot.Decision.{Decision};
 ghost use Rattle.dup_check.specs.Snapshot.{outcome_of};
@@ -8,12 +8,16 @@ ghost use Rattle.journal_entries.specs.declared.act.Entry.{Entry};
 ghost use Rattle.journal_rules.specs.Deciding.{decided};
 ghost use Rattle.journal_rules.specs.Legal.{IsLegal};
 ghost use Rattle.journal_entries.specs.declared.update.Cause.TheVariants.{Memory};
+ghost use Rattle.journal_laws.specs.ClientLaw.{Shows};
+ghost use Rattle.journal_rules.specs.Client.{is_alive};
 ghost use Rattle.journal_rules.specs.Locks.{Holds};
 ghost use Rattle.turn_rules.specs.Locking.{staleness};
 ghost use Rattle.book.specs.Calls.{MayRefuse};
+ghost use Rattle.book.specs.Roomed.{IsClientOf};
 ghost use Rattle.book.specs.Looking.{IsDecided, IsLookAt, IsNoCommit, IsOf, IsSince};
 
 use crate::book::Book;
+use share_client::ShareClient;
 
 /// What [`Book::acquire`] answers is a look of the journal that it leaves.
 pub fn look_begins()
@@ -41,6 +45,23 @@ pub fn look_may_be_refused()
 {}
 
 impl Book {
+    /// The journal of a book is legal. Does nothing.
+    pub fn legal(&self)
+        ensures { IsLegal self.now.journal }
+    {
+        let _ = &self.journal;
+    }
+
+    /// A client of this book that is joined or left shows its version's text with its own operations
+    /// on top, and its mail brings it what was applied since, in order. Does nothing.
+    pub fn shows(&self, client: &ShareClient)
+        requires { IsClientOf self.now.journal client.now }
+        ensures { is_alive client.now.now.state ≡ true → Shows client.now.client self.now.journal client.now.now }
+    {
+        let _ = &self.journal;
+        let _ = client;
+    }
+
     /// The fence: while the token of a look stands, what is decided by the look is what the journal as
     /// it has become decides.
     pub fn look_decides(&self)

@@ -1,2 +1,3 @@
 pub mod Refusals
 pub mod Joining
+pub mod Lines

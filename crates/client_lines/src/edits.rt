@@ -1,6 +1,6 @@
 //! A client edits its text.
 
-ghost use Rattle.std.specs.Prelude.{◌≡◌, ◌∷◌, [], OnOk, IfOk, IfErr, Option, None, Some};
+ghost use Rattle.std.specs.Prelude.{◌≡◌, ◌∷◌, [], OnOk, OnErr, IfOk, IfErr, Option, None, Some};
 ghost use Rattle.book.specs.Roomed.{IsClientAfter, IsClientOf};
 ghost use Rattle.book.specs.Shown.{adds};
 ghost use Rattle.journal_rules.specs.Client.{client as client_lem};
@@ -14,8 +14,8 @@ use share_client::{Edit, EditFault, ShareClient};
 use std::alloc::AllocError;
 
 /// A client edits its text, or the line is declined for what stands against it. The only error is
-/// want of memory.
-pub fn edit(
+/// want of memory, and nothing was written then.
+pub(crate) fn edit(
     book: &mut Book,
     client: &mut ShareClient,
     by: By,
@@ -25,6 +25,7 @@ pub fn edit(
     requires edit { IsEdit edit.now }
     ensures edits { OnOk result (book.new ≡ adds book.old by.seat by.line (edit_act client.old.client book.old.journal (edit_end edit.now) (edit_comp (client_lem client.old.client book.old.journal).text edit.now) ∷ [])) }
     ensures client { OnOk result (IsClientAfter book.new.journal client.old client.new) }
+    ensures kept { OnErr result ((book.new ≡ book.old) × (client.new ≡ client.old)) }
 {
     match book.edit(by, client, edit) {
         Ok(()) => Ok(()),

@@ -4,10 +4,11 @@
 
 mod edits;
 mod joining;
+mod leaving;
+mod line;
 mod mail;
+mod returning;
 mod sending;
 
-pub use edits::edit;
 pub use joining::join_named;
-pub use mail::receive;
-pub use sending::send;
+pub use line::{ClientLine, do_line};

@@ -9,7 +9,6 @@ ghost use Rattle.journal_entries.specs.declared.act.Act.TheVariants.{Committed};
 ghost use Rattle.journal_entries.specs.declared.update.Outcome.{Outcome};
 ghost use Rattle.journal_entries.specs.declared.update.Cause.TheVariants.{Memory as NoMemory};
 ghost use Rattle.journal_rules.specs.Documents.{IsMade};
-ghost use Rattle.journal_rules.specs.Legal.{IsLegal};
 ghost use Rattle.journal_rules.specs.Locks.{Holds};
 ghost use Rattle.turn_rules.specs.Draining.{DrainsOne, IsCommit, Settles, Under};
 ghost use Rattle.turn_rules.specs.Locking.{staleness};
@@ -69,7 +68,7 @@ fn drain_one(alloc: Global, book: &mut Book, by: By, doc: u32) -> Result<(), Acq
     ensures kept { OnErr result (book.new ≡ book.old) }
     ensures drivers { book.new.drivers ≡ book.old.drivers }
 {
-    legal(book);
+    book.legal();
     let look = book.acquire(by, doc)?;
     settle(alloc, book, by, look);
     Ok(())
@@ -139,11 +138,4 @@ pub fn prepare(alloc: Global, look: Snapshot) -> Result<Prepared, AllocError>
 {
     let decision = decide(alloc, &look)?;
     Ok(Prepared { look, decision })
-}
-
-/// The journal of a book is legal: a law. Does nothing.
-pub fn legal(book: &Book)
-    ensures { IsLegal book.now.journal }
-{
-    let _journal = book.journal();
 }

@@ -3,4 +3,4 @@
 
 mod dispatch;
 
-pub use dispatch::{DrainEnd, drain, legal, prepare};
+pub use dispatch::{DrainEnd, drain, prepare};

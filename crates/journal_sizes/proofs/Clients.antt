@@ -54,7 +54,7 @@ under_flight (Some f) here there e light le = let r = light_places here there f 
 pub lighter : (op : List Comp) → rules.IsLight op → IsLight op
 lighter op light = record { units = light.0; comments = light.1 }
 
-sized_flight : (flight : Option (List Comp)) → IsLightFlight flight → flight_fits flight ≡ true → (f : List Comp) → flight ≡ Some f → IsSized f
+pub sized_flight : (flight : Option (List Comp)) → IsLightFlight flight → flight_fits flight ≡ true → (f : List Comp) → flight ≡ Some f → IsSized f
 sized_flight None light fits f is = absurd (cc)
 sized_flight (Some g) light fits f is = let same : g ≡ f = cc in subst IsSized same (record { light = lighter g light; low = fits })
 

@@ -29,7 +29,7 @@ delivered_sized source n items (Ack v number) rest low all (inl now) = let same 
 delivered_sized source n items (Ack v number) rest low all (inr earlier) = let less = earlier.0 in omega (arith, less, low)
 delivered_sized source n items (Error number cause) rest low all d = tt
 
-ahead_sized : (d n : ℕ) (j : List Entry) → IsLegal j → AllIn IsSized (ops (items_from d n j))
+pub ahead_sized : (d n : ℕ) (j : List Entry) → IsLegal j → AllIn IsSized (ops (items_from d n j))
 ahead_sized d n j legal = subst (AllIn IsSized) (drop-map (λ (x : Item). x.op) (n - base d j) (applied_list d j)) (all_in_drop IsSized (n - base d j) (operations d j) (items_sized d j legal))
 
 pub mail_sized : (c : ℕ) (j : List Entry) (m : Msg) (rest : List Msg) → IsLegal j → length j ≤ MAX_ENTRIES → is_alive (client c j).state ≡ true → mail c j ≡ m ∷ rest → IsSizedMsg m

@@ -1,9 +1,12 @@
-//! A component as it is written in a JSON value.
+//! A component as it is written in a JSON value, or as an edit of a line.
 ghost use Rattle.std.specs.Prelude.{◌≡◌, option_map};
 ghost use Rattle.ot_json.specs.Form.{comment_of, delete_of, insert_of, place_at, thread_at, written_data, written_of};
+ghost use Rattle.json_lines.specs.Reading.{within};
+ghost use Rattle.line_reader.specs.Fields.{edit_data};
 ghost use Rattle.serde_json.specs.View.{view};
 
 use json_lines::{count_keys, number_within, text_of};
+use line_reader::Edit;
 use ot_op::MAX_PLACE;
 use serde_json::Value;
 
@@ -63,4 +66,23 @@ fn read_thread(value: &Value) -> Option<u32>
 {
     let thread = number_within(value, "t", u32::MAX as u64)?;
     Some(thread as u32)
+}
+
+/// The component that an edit is.
+pub(crate) fn component_of<'v>(edit: &Edit<'v>) -> Option<Component<'v>>
+    ensures { option_map written_data result ≡ written_of (edit_data edit.now) }
+{
+    match edit {
+        Edit::Insert(text, place) => Some(Component::Insert(text, place_of(*place)?)),
+        Edit::Delete(text, place) => Some(Component::Delete(text, place_of(*place)?)),
+    }
+}
+
+fn place_of(place: u64) -> Option<u32>
+    ensures { result ≡ within MAX_PLACE place }
+{
+    if place > MAX_PLACE as u64 {
+        return None;
+    }
+    Some(place as u32)
 }

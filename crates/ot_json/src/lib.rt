@@ -14,5 +14,5 @@ mod tests;
 mod write;
 
 pub use fault::OpFault;
-pub use read::{read_long, read_op};
+pub use read::{read_edits, read_long, read_op};
 pub use write::write_op;

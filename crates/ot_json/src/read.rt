@@ -1,12 +1,15 @@
 //! Reading operations from JSON values.
-ghost use Rattle.std.specs.Prelude.{◌≡◌, Ok, IfErr, IfOk, IfSome};
+ghost use Rattle.std.specs.Prelude.{◌≡◌, Ok, IfErr, IfOk, IfSome, map};
 ghost use Rattle.ot_json.specs.Grammar.{IsWithinLimits, IsFaultOf, array_or_fault, components_or_fault, long_operation_of, operation_of, readings, total_units, unless_large};
 ghost use Rattle.ot_op.specs.Operation.{units_of};
+ghost use Rattle.line_reader.specs.Fields.{edit_data};
+ghost use Rattle.serde_json.specs.Data.{array};
 ghost use Rattle.serde_json.specs.Find.{as_array};
-ghost use Rattle.serde_json.specs.View.{items_view, view};
+ghost use Rattle.serde_json.specs.View.{items_of, view};
 
 use crate::OpFault;
-use crate::reading::{Grammar, Reading, read_element};
+use crate::reading::{Element, Grammar, Reading};
+use line_reader::Edit;
 use ot_op::{Comp, FormFault, MAX_COMPONENTS, MAX_OPERATION_UNITS, Op};
 use serde_json::Value;
 use std::alloc::Global;
@@ -32,6 +35,16 @@ pub fn read_op(alloc: Global, value: &Value) -> Result<Op, OpFault>
     Ok(op)
 }
 
+/// The operation that a client sent, by the edits of its array; as [`read_op`] reads it.
+pub fn read_edits(alloc: Global, edits: &[Edit<'_>]) -> Result<Op, OpFault>
+    ensures ok { IfOk result (λ op. operation_of (array (items_of (map edit_data edits.now))) ≡ Ok op) }
+    ensures fault { IfErr result (λ fault. IsFaultOf (operation_of (array (items_of (map edit_data edits.now)))) fault) }
+{
+    let op = read_elements(alloc, Grammar::Sent, edits)?;
+    check_size(op.comps())?;
+    Ok(op)
+}
+
 /// The operation that was written, of whatever size.
 ///
 /// It is refused as by [`read_op`], but never as too large. What [`read_op`] would drop or change,
@@ -53,14 +66,14 @@ fn read_array(alloc: Global, grammar: Grammar, value: &Value) -> Result<Op, OpFa
     }
 }
 
-fn read_elements(alloc: Global, grammar: Grammar, elements: &[Value]) -> Result<Op, OpFault>
-    ensures ok { IfOk result (λ op. components_or_fault (readings grammar (items_view elements.now)) ≡ Ok op) }
-    ensures fault { IfErr result (λ fault. IsFaultOf (components_or_fault (readings grammar (items_view elements.now))) fault) }
+fn read_elements<E: Element>(alloc: Global, grammar: Grammar, elements: &[E]) -> Result<Op, OpFault>
+    ensures ok { IfOk result (λ op. components_or_fault (readings grammar (items_of (map E.value elements.now))) ≡ Ok op) }
+    ensures fault { IfErr result (λ fault. IsFaultOf (components_or_fault (readings grammar (items_of (map E.value elements.now)))) fault) }
 {
     let mut op = Op::empty(alloc);
     let mut supplementary = None;
     for (k, element) in elements.iter().enumerate() {
-        match read_element(alloc, grammar, element)? {
+        match element.read(alloc, grammar)? {
             Reading::Kept(comp) => {
                 if op.push(comp).is_err() {
                     return Err(OpFault::Memory);

@@ -1,10 +1,12 @@
 //! What an element of an operation's array is read as.
-ghost use Rattle.std.specs.Prelude.{◌≡◌, IfOk};
+ghost use Rattle.std.specs.Prelude.{◌≡◌, IfOk, option_map};
 ghost use Rattle.ot_json.specs.Form.{written_data, written_of};
 ghost use Rattle.ot_json.specs.Reading.{reading_of, sent_reading, stored_reading, unless_void};
+ghost use Rattle.serde_json.specs.Data.{Data};
 ghost use Rattle.serde_json.specs.View.{view};
 
-use crate::component::{Component, read_component};
+use crate::component::{Component, component_of, read_component};
+use line_reader::Edit;
 use ot_op::Comp;
 use ot_units::Units;
 use serde_json::Value;
@@ -33,15 +35,43 @@ pub(crate) enum Reading {
     OutOfForm,
 }
 
-/// What one element is read as.
-pub(crate) fn read_element(
+/// An element of an operation's array.
+pub(crate) trait Element {
+    /// The value that it is.
+    ghost value: { Self → Data };
+
+    /// What it is read as.
+    fn read(&self, alloc: Global, grammar: Grammar) -> Result<Reading, AllocError>
+        ensures { IfOk result (λ reading. reading ≡ reading_of grammar (written_of (value self.now))) };
+}
+
+impl Element for Value {
+    ghost value = { view };
+
+    fn read(&self, alloc: Global, grammar: Grammar) -> Result<Reading, AllocError> {
+        read_element(alloc, grammar, read_component(self))
+    }
+}
+
+impl Element for Edit<'_> {
+    ghost use Rattle.line_reader.specs.Fields.{edit_data};
+
+    ghost value = { edit_data };
+
+    fn read(&self, alloc: Global, grammar: Grammar) -> Result<Reading, AllocError> {
+        read_element(alloc, grammar, component_of(self))
+    }
+}
+
+// What the component of an element is read as.
+fn read_element(
     alloc: Global,
     grammar: Grammar,
-    value: &Value,
+    component: Option<Component<'_>>,
 ) -> Result<Reading, AllocError>
-    ensures { IfOk result (λ reading. reading ≡ reading_of grammar (written_of (view value.now))) }
+    ensures { IfOk result (λ reading. reading ≡ reading_of grammar (option_map written_data component.entry)) }
 {
-    let Some(component) = read_component(value) else {
+    let Some(component) = component else {
         return Ok(Reading::OutOfForm);
     };
     match grammar {

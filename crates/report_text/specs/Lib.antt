@@ -4,3 +4,4 @@ pub mod Documents
 pub mod Clients
 pub mod Projects
 pub mod Sent
+pub mod Got

@@ -1,30 +1,33 @@
-//! The lines of the entries that come most, written straight, without an object.
+//! The lines of the entries that come most, written straight, without an object, behind what a
+//! buffer holds.
 
-ghost use Rattle.std.specs.Prelude.{◌≡◌, [], IfOk, OnOk};
+ghost use Rattle.std.specs.Prelude.{◌≡◌, ◌++◌, [], IfOk, OnOk};
 ghost use Rattle.json_lines.specs.Object.{line_of};
 ghost use Rattle.journal_entries.specs.declared.act.Act.{Act};
 ghost use Rattle.journal_entries.specs.declared.update.Outcome.{Outcome};
 ghost use Rattle.line_writer.specs.Puts.{Puts};
 ghost use Rattle.report_text.specs.Entries.{entry_members};
+ghost use Rattle.report_text.specs.Got.{error_back, got_back, versioned_back};
 ghost use Rattle.report_text.specs.Sent.{sent_back, sent_front};
 
 use crate::heading::Heading;
-use crate::members::{begin_line, put_name, put_op, put_optional, put_sources};
-use journal_entries::Update;
+use crate::members::{put_name, put_op, put_op_of, put_optional, put_sources};
+use journal_entries::{Brief, Update};
 use line_writer::LineWriter;
-use ot_op::Op;
+use ot_op::{Comp, Op};
 use std::alloc::{AllocError, Global};
 
 /// The line of an update that was sent.
 pub(crate) fn sent_line(
     alloc: Global,
+    bytes: Vec<u8>,
     heading: &Heading,
     update: &Update,
 ) -> Result<Vec<u8>, AllocError>
-    ensures { IfOk result (λ bytes. bytes.items ≡ line_of (entry_members heading.now.board heading.now.n []
+    ensures { IfOk result (λ made. made.items ≡ bytes.items ++ line_of (entry_members heading.now.board heading.now.n []
         (record { seat = heading.now.seat; line = heading.now.line; act = Act.Sent update.now }))) }
 {
-    let mut line = begin_line(alloc)?;
+    let mut line = LineWriter::begin(bytes)?;
     put_front(&mut line, heading, update)?;
     put_back(&mut line, alloc, heading, update)?;
     line.finish()
@@ -73,13 +76,14 @@ pub(crate) struct Applied<'e> {
 /// The line of an update that was applied.
 pub(crate) fn applied_line(
     alloc: Global,
+    bytes: Vec<u8>,
     heading: &Heading,
     applied: &Applied<'_>,
 ) -> Result<Vec<u8>, AllocError>
-    ensures { IfOk result (λ bytes. bytes.items ≡ line_of (entry_members heading.now.board heading.now.n []
+    ensures { IfOk result (λ made. made.items ≡ bytes.items ++ line_of (entry_members heading.now.board heading.now.n []
         (record { seat = heading.now.seat; line = heading.now.line; act = Act.Committed applied.now.doc applied.now.token applied.now.ticket (Outcome.Applied applied.now.v applied.now.op.now) }))) }
 {
-    let mut line = begin_line(alloc)?;
+    let mut line = LineWriter::begin(bytes)?;
     line.number("b", heading.board as u64)?;
     line.number("doc", applied.doc as u64)?;
     line.text("e", "committed")?;
@@ -96,16 +100,16 @@ pub(crate) fn applied_line(
 
 /// The line of a lock that was taken.
 pub(crate) fn acquired_line(
-    alloc: Global,
+    bytes: Vec<u8>,
     heading: &Heading,
     doc: u32,
     token: u64,
     until: u64,
 ) -> Result<Vec<u8>, AllocError>
-    ensures { IfOk result (λ bytes. bytes.items ≡ line_of (entry_members heading.now.board heading.now.n []
+    ensures { IfOk result (λ made. made.items ≡ bytes.items ++ line_of (entry_members heading.now.board heading.now.n []
         (record { seat = heading.now.seat; line = heading.now.line; act = Act.Acquired doc token until }))) }
 {
-    let mut line = begin_line(alloc)?;
+    let mut line = LineWriter::begin(bytes)?;
     line.number("b", heading.board as u64)?;
     line.number("doc", doc as u64)?;
     line.text("e", "acquired")?;
@@ -119,15 +123,15 @@ pub(crate) fn acquired_line(
 
 /// The line of a lock that was let go.
 pub(crate) fn released_line(
-    alloc: Global,
+    bytes: Vec<u8>,
     heading: &Heading,
     doc: u32,
     token: u64,
 ) -> Result<Vec<u8>, AllocError>
-    ensures { IfOk result (λ bytes. bytes.items ≡ line_of (entry_members heading.now.board heading.now.n []
+    ensures { IfOk result (λ made. made.items ≡ bytes.items ++ line_of (entry_members heading.now.board heading.now.n []
         (record { seat = heading.now.seat; line = heading.now.line; act = Act.Released doc token }))) }
 {
-    let mut line = begin_line(alloc)?;
+    let mut line = LineWriter::begin(bytes)?;
     line.number("b", heading.board as u64)?;
     line.number("doc", doc as u64)?;
     line.text("e", "released")?;
@@ -136,4 +140,78 @@ pub(crate) fn released_line(
     line.number("seat", heading.seat as u64)?;
     line.number("token", token)?;
     line.finish()
+}
+
+/// The line of an edit by a client.
+pub(crate) fn edited_line(
+    alloc: Global,
+    bytes: Vec<u8>,
+    heading: &Heading,
+    client: u32,
+    comp: &Comp,
+) -> Result<Vec<u8>, AllocError>
+    ensures { IfOk result (λ made. made.items ≡ bytes.items ++ line_of (entry_members heading.now.board heading.now.n []
+        (record { seat = heading.now.seat; line = heading.now.line; act = Act.Edited client comp.now }))) }
+{
+    let mut line = LineWriter::begin(bytes)?;
+    line.number("b", heading.board as u64)?;
+    line.number("client", client as u64)?;
+    line.text("e", "edited")?;
+    put_optional(&mut line, "line", heading.line)?;
+    line.number("n", heading.n)?;
+    put_op_of(&mut line, alloc, "op", comp)?;
+    line.number("seat", heading.seat as u64)?;
+    line.finish()
+}
+
+/// The line of a message that a client got.
+pub(crate) fn got_line(
+    bytes: Vec<u8>,
+    heading: &Heading,
+    client: u32,
+    brief: &Brief,
+) -> Result<Vec<u8>, AllocError>
+    ensures { IfOk result (λ made. made.items ≡ bytes.items ++ line_of (entry_members heading.now.board heading.now.n []
+        (record { seat = heading.now.seat; line = heading.now.line; act = Act.Got client brief.now }))) }
+{
+    let mut line = LineWriter::begin(bytes)?;
+    line.number("b", heading.board as u64)?;
+    line.number("client", client as u64)?;
+    line.text("e", "got")?;
+    put_optional(&mut line, "line", heading.line)?;
+    put_message(&mut line, heading, brief)?;
+    line.finish()
+}
+
+fn put_message(line: &mut LineWriter, heading: &Heading, brief: &Brief) -> Result<(), AllocError>
+    ensures { OnOk result (Puts line.old line.new (got_back heading.now brief.now)) }
+{
+    match brief {
+        Brief::Op(v) => put_versioned(line, heading, "op", *v),
+        Brief::Ack(v) => put_versioned(line, heading, "ack", *v),
+        Brief::Error(number) => put_error(line, heading, *number),
+    }
+}
+
+fn put_versioned(
+    line: &mut LineWriter,
+    heading: &Heading,
+    msg: &str,
+    v: u64,
+) -> Result<(), AllocError>
+    ensures { OnOk result (Puts line.old line.new (versioned_back heading.now msg.now v)) }
+{
+    line.text("msg", msg)?;
+    line.number("n", heading.n)?;
+    line.number("seat", heading.seat as u64)?;
+    line.number("v", v)
+}
+
+fn put_error(line: &mut LineWriter, heading: &Heading, number: u64) -> Result<(), AllocError>
+    ensures { OnOk result (Puts line.old line.new (error_back heading.now number)) }
+{
+    line.text("msg", "error")?;
+    line.number("n", heading.n)?;
+    line.number("number", number)?;
+    line.number("seat", heading.seat as u64)
 }

@@ -16,5 +16,5 @@ mod why;
 
 pub use client_end::{ClientEnd, EndState, client_line};
 pub use document_end::{DocEnd, doc_line};
-pub use entry::entry_line;
+pub use entry::{append_entry_line, entry_line};
 pub use project_end::{ProjectEnd, project_line};

@@ -5,6 +5,7 @@ ghost use Rattle.std.specs.Prelude.{◌≡◌, [], ◌∷◌, codes, map, IfOk, 
 ghost use Rattle.json.specs.Token.{begin_object};
 ghost use Rattle.serde_json.specs.Data.{item, member, no_members, number, object, string, unsigned};
 ghost use Rattle.json_lines.specs.Object.{optional, units_data};
+ghost use Rattle.ot_op.specs.Compose.{appended};
 ghost use Rattle.ot_json.specs.Grammar.{component_data, operation_data};
 ghost use Rattle.line_writer.specs.Puts.{Puts, PutsElements, elements_before};
 ghost use Rattle.report_text.specs.Values.{numbers_data};
@@ -70,6 +71,30 @@ pub(crate) fn put_op(
     line.open_array()?;
     put_comps(line, alloc, op.comps())?;
     line.close_array()
+}
+
+/// Puts the operation of one component in; an insert or delete of the empty text is dropped.
+pub(crate) fn put_op_of(
+    line: &mut LineWriter,
+    alloc: Global,
+    key: &str,
+    comp: &Comp,
+) -> Result<(), AllocError>
+    ensures { OnOk result (Puts line.old line.new (member key.now (operation_data (appended [] comp.now)))) }
+{
+    line.key(key)?;
+    line.open_array()?;
+    put_unless_void(line, alloc, comp)?;
+    line.close_array()
+}
+
+fn put_unless_void(line: &mut LineWriter, alloc: Global, comp: &Comp) -> Result<(), AllocError>
+    ensures { OnOk result (PutsElements line.old line.new (elements_before (map component_data (appended [] comp.now)))) }
+{
+    if comp.is_void() {
+        return Ok(());
+    }
+    put_comp(line, alloc, comp)
 }
 
 fn put_comps(line: &mut LineWriter, alloc: Global, comps: &[Comp]) -> Result<(), AllocError>

@@ -8,7 +8,8 @@ use ot_op::{Comp, FormFault, Op};
 use ot_units::{Name, Units};
 use ranges_tracker::{Change, ChangeKind, Comment, Ranges};
 use report_text::{
-    ClientEnd, DocEnd, EndState, ProjectEnd, client_line, doc_line, entry_line, project_line,
+    ClientEnd, DocEnd, EndState, ProjectEnd, append_entry_line, client_line, doc_line, entry_line,
+    project_line,
 };
 use std::alloc::Global;
 use std::test::Fail;
@@ -511,6 +512,38 @@ fn writes_clients(rt: HostRuntime) -> Result<(), Fail> {
         let want = want.replace(alloc, "'", "\"")?;
         assert_eq!(rt; line.as_slice(), want.as_str().as_bytes());
     }
+    Ok(())
+}
+
+// A line that is written straight and one that is made of an object, each behind what is there.
+#[test]
+fn writes_entries_behind_what_is_there(rt: HostRuntime) -> Result<(), Fail> {
+    let alloc = rt.alloc();
+    let void = Act::Edited {
+        client: 1,
+        comp: Comp::Ins(0, Units::sanitized(alloc, "")?),
+    };
+    let entries = [
+        Entry {
+            seat: 2,
+            line: None,
+            act: void,
+        },
+        Entry {
+            seat: 2,
+            line: None,
+            act: Act::Left { client: 1 },
+        },
+    ];
+    let mut bytes = Vec::new(alloc);
+    bytes.extend_from_slice(b"before ")?;
+    for (n, entry) in entries.iter().enumerate() {
+        bytes = append_entry_line(alloc, bytes, 0, n as u64, entry, &[])?;
+    }
+    let want =
+        "before {'b':0,'client':1,'e':'edited','line':null,'n':0,'op':[],'seat':2}\n{'b':0,'client':1,'e':'left','line':null,'n':1,'seat':2}\n";
+    let want = want.replace(alloc, "'", "\"")?;
+    assert_eq!(rt; bytes.as_slice(), want.as_str().as_bytes());
     Ok(())
 }
 

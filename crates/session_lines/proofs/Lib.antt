@@ -1,3 +1,4 @@
+pub mod Edits
 pub mod Indexing
 pub mod Standing
 pub mod Shortest

@@ -1,32 +1,33 @@
 //! How many keys a line has.
 
 ghost use Rattle.std.specs.Prelude.{◌≡◌};
-ghost use Rattle.serde_json.specs.View.{view};
+ghost use Rattle.session_lines.specs.Object.{object_data};
 ghost use Rattle.session_lines.specs.Line.{action_keys, extra, line_keys};
 
 use crate::command::{Action, Command};
-use json_lines::has_key;
-use serde_json::Value;
+use crate::object::{LineObject, has_key};
 
 /// How many keys a line of a command has, with `do`.
-pub(crate) fn count_line_keys(command: Command, value: &Value) -> usize
-    ensures { result ≡ line_keys command (view value.now) }
+pub(crate) fn count_line_keys(command: Command, object: &LineObject<'_>) -> usize
+    ensures { result ≡ line_keys command (object_data object.now) }
 {
     match command {
-        Command::Doc => 4 + one_if_has(value, "v"),
-        Command::BySession(action) => count_action_keys(action, value),
+        Command::Doc => 4 + one_if_has(object, "v"),
+        Command::BySession(action) => count_action_keys(action, object),
     }
 }
 
-fn count_action_keys(action: Action, value: &Value) -> usize
-    ensures { result ≡ action_keys action (view value.now) }
+fn count_action_keys(action: Action, object: &LineObject<'_>) -> usize
+    ensures { result ≡ action_keys action (object_data object.now) }
 {
     match action {
         Action::Tick => 3,
         Action::Raw => {
-            6 + one_if_has(value, "source") + one_if_has(value, "dup") + one_if_has(value, "track")
+            6 + one_if_has(object, "source")
+                + one_if_has(object, "dup")
+                + one_if_has(object, "track")
         }
-        Action::Join => 4 + one_if_has(value, "track"),
+        Action::Join => 4 + one_if_has(object, "track"),
         Action::Rejoin => 2,
         Action::Leave => 2,
         Action::Send => 2,
@@ -45,8 +46,8 @@ fn count_action_keys(action: Action, value: &Value) -> usize
     }
 }
 
-fn one_if_has(value: &Value, key: &str) -> usize
-    ensures { result ≡ extra key.now (view value.now) }
+fn one_if_has(object: &LineObject<'_>, key: &str) -> usize
+    ensures { result ≡ extra key.now (object_data object.now) }
 {
-    if has_key(value, key) { 1 } else { 0 }
+    if has_key(object, key) { 1 } else { 0 }
 }

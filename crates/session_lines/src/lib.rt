@@ -16,6 +16,7 @@ mod limits;
 mod line;
 mod names;
 mod notes;
+mod object;
 mod raw_line;
 mod read;
 mod script;

@@ -1,16 +1,13 @@
 //! Reading the line that sends an operation as it stands.
 
 ghost use Rattle.std.specs.Prelude.{◌≡◌, IfOk};
-ghost use Rattle.serde_json.specs.View.{view};
-ghost use Rattle.session_lines.specs.Line.{raw_line, raw_operation};
+ghost use Rattle.session_lines.specs.Object.{object_data};
+ghost use Rattle.session_lines.specs.Line.{raw_line};
 
 use crate::fields::{flag_or_no, name_of, number_or_0, sources_of};
 use crate::line::Line;
+use crate::object::{LineObject, number_of, operation_of};
 use journal_entries::MAX_RAW_SOURCE;
-use json_lines::number_of;
-use ot_json::{OpFault, read_op};
-use ot_op::{FormFault, Op};
-use serde_json::Value;
 use std::alloc::{AllocError, Global};
 
 /// The raw line of a session, or `None` where its fields are no such line's. An operation out of
@@ -18,32 +15,31 @@ use std::alloc::{AllocError, Global};
 pub(crate) fn read_raw(
     alloc: Global,
     session: u32,
-    value: &Value,
+    object: &LineObject<'_>,
 ) -> Result<Option<Line>, AllocError>
-    ensures { IfOk result (λ line. line ≡ raw_line session (view value.now)) }
+    ensures { IfOk result (λ line. line ≡ raw_line session (object_data object.now)) }
 {
-    let Some(v) = number_of(value, "v") else {
+    let Some(v) = number_of(object, "v") else {
         return Ok(None);
     };
-    let Some(source) = number_or_0(value, "source", MAX_RAW_SOURCE) else {
+    let Some(source) = number_or_0(object, "source", MAX_RAW_SOURCE) else {
         return Ok(None);
     };
-    let Some(track) = flag_or_no(value, "track") else {
+    let Some(track) = flag_or_no(object, "track") else {
         return Ok(None);
     };
-    let Some(doc) = name_of(alloc, value, "doc")? else {
+    let Some(doc) = name_of(alloc, object, "doc")? else {
         return Ok(None);
     };
-    let Some(user) = name_of(alloc, value, "user")? else {
+    let Some(user) = name_of(alloc, object, "user")? else {
         return Ok(None);
     };
-    let Some(dup) = sources_of(alloc, value, "dup")? else {
+    let Some(dup) = sources_of(alloc, object, "dup")? else {
         return Ok(None);
     };
-    let Some(op) = value.get("op") else {
+    let Some(op) = operation_of(alloc, object)? else {
         return Ok(None);
     };
-    let op = read_operation(alloc, op)?;
     Ok(Some(Line::Raw {
         session,
         doc,
@@ -54,15 +50,4 @@ pub(crate) fn read_raw(
         v,
         op,
     }))
-}
-
-#[tactic(auto, unfolding(crate::specs::Line::raw_operation))]
-fn read_operation(alloc: Global, value: &Value) -> Result<Result<Op, FormFault>, AllocError>
-    ensures { IfOk result (λ read. read ≡ raw_operation (view value.now)) }
-{
-    match read_op(alloc, value) {
-        Ok(op) => Ok(Ok(op)),
-        Err(OpFault::Bad(fault)) => Ok(Err(fault)),
-        Err(OpFault::Memory) => Err(AllocError),
-    }
 }

@@ -1,7 +1,7 @@
 //! Reading a script line by line.
 
 ghost use Rattle.std.specs.Prelude.{◌≡◌, ◌≢◌, ◌≤◌, ◌^◌, ◌<◌, [], length, Ok, Err, Some, None, IfOk, IfErr, OnOk, option_map};
-ghost use Rattle.serde_json.specs.View.{view};
+ghost use Rattle.session_lines.specs.Object.{IsWhole, object_data};
 ghost use Rattle.session_lines.specs.Standing.{AreBySessions, AreSlow, AreStanding};
 ghost use Rattle.session_lines.specs.Script.{by_command, by_session, next_script, script, script_of, with_line, with_value};
 ghost use Rattle.session_lines.specs.declared.limits.TheConstants.{MAX_SESSIONS};
@@ -16,9 +16,10 @@ use crate::keys::count_line_keys;
 use crate::limits::MAX_SESSIONS;
 use crate::line::Line;
 use crate::names::Names;
+use crate::object::{LineObject, count_keys, read_object, text_of};
 use crate::script::Script;
-use json_lines::{count_keys, first_line, read_value, text_of};
-use serde_json::Value;
+use json::Scratch;
+use json_lines::first_line;
 use std::alloc::{AllocError, Global};
 
 /// The script that a text is, or its first bad line.
@@ -43,11 +44,12 @@ fn read_lines(alloc: Global, bytes: &[u8]) -> Result<Script, ScriptFault>
 {
     let mut names = Names::new(alloc);
     let mut earlier = Earlier::new(alloc);
+    let mut scratch = Scratch::new(alloc);
     let mut rest = bytes;
     let mut n = 1u64;
     'lines: while !rest.is_empty() {
         let (line, behind) = first_line(rest);
-        earlier = read_line(alloc, n, &mut names, earlier, line)?;
+        earlier = read_line(alloc, &mut scratch, n, &mut names, earlier, line)?;
         rest = behind;
         n += 1;
     }
@@ -61,6 +63,7 @@ fn read_lines(alloc: Global, bytes: &[u8]) -> Result<Script, ScriptFault>
 // The lines with the one of number n. At most 256 names stay within bounds.
 fn read_line(
     alloc: Global,
+    scratch: &mut Scratch,
     n: u64,
     names: &mut Names,
     earlier: Earlier,
@@ -71,8 +74,8 @@ fn read_line(
     ensures few { OnOk result (length names.new ≤ MAX_SESSIONS) }
     ensures fault { IfErr result (λ e. e ≢ ScriptFault.Memory → next_script n (script earlier names.old) line.now ≡ Err e) }
 {
-    match read_value(alloc, line) {
-        Ok(Some(value)) => read_command_line(alloc, n, names, earlier, &value),
+    match read_object(alloc, scratch, line) {
+        Ok(Some(object)) => read_command_line(alloc, n, names, earlier, &object),
         Ok(None) => Err(ScriptFault::Json(n)),
         Err(_) => Err(ScriptFault::Memory),
     }
@@ -83,23 +86,24 @@ fn read_command_line(
     n: u64,
     names: &mut Names,
     earlier: Earlier,
-    value: &Value,
+    object: &LineObject<'_>,
 ) -> Result<Earlier, ScriptFault>
-    requires { length names.old ≤ MAX_SESSIONS }
-    ensures ok { IfOk result (λ more. with_value n (script earlier names.old) (Some (view value.now)) ≡ Ok (script more names.new)) }
+    requires whole { IsWhole object.now }
+    requires few { length names.old ≤ MAX_SESSIONS }
+    ensures ok { IfOk result (λ more. with_value n (script earlier names.old) (Some (object_data object.now)) ≡ Ok (script more names.new)) }
     ensures few { OnOk result (length names.new ≤ MAX_SESSIONS) }
-    ensures fault { IfErr result (λ e. e ≢ ScriptFault.Memory → with_value n (script earlier names.old) (Some (view value.now)) ≡ Err e) }
+    ensures fault { IfErr result (λ e. e ≢ ScriptFault.Memory → with_value n (script earlier names.old) (Some (object_data object.now)) ≡ Err e) }
 {
-    let Some(name) = text_of(value, "do") else {
+    let Some(name) = text_of(object, "do") else {
         return Err(ScriptFault::Form(n));
     };
     let Some(command) = read_command(name) else {
         return Err(ScriptFault::Unknown(n));
     };
-    if count_keys(value) != count_line_keys(command, value) {
+    if count_keys(object) != count_line_keys(command, object) {
         return Err(ScriptFault::Form(n));
     }
-    match read_fields(alloc, command, names, earlier, value) {
+    match read_fields(alloc, command, names, earlier, object) {
         Ok(Some(more)) => Ok(more),
         Ok(None) => Err(ScriptFault::Form(n)),
         Err(_) => Err(ScriptFault::Memory),
@@ -111,18 +115,18 @@ fn read_fields(
     command: Command,
     names: &mut Names,
     earlier: Earlier,
-    value: &Value,
+    object: &LineObject<'_>,
 ) -> Result<Option<Earlier>, AllocError>
     requires { length names.old ≤ MAX_SESSIONS }
-    ensures value { IfOk result (λ read. option_map (λ more. script more names.new) read ≡ by_command earlier names.old command (view value.now)) }
+    ensures value { IfOk result (λ read. option_map (λ more. script more names.new) read ≡ by_command earlier names.old command (object_data object.now)) }
     ensures few { IfOk result (λ read. read ≢ None → length names.new ≤ MAX_SESSIONS) }
 {
     match command {
-        Command::Doc => match read_doc(alloc, value)? {
+        Command::Doc => match read_doc(alloc, object)? {
             Some(line) => with(alloc, names, earlier, line),
             None => Ok(None),
         },
-        Command::BySession(action) => read_action(alloc, action, names, earlier, value),
+        Command::BySession(action) => read_action(alloc, action, names, earlier, object),
     }
 }
 
@@ -131,19 +135,19 @@ fn read_action(
     action: Action,
     names: &mut Names,
     earlier: Earlier,
-    value: &Value,
+    object: &LineObject<'_>,
 ) -> Result<Option<Earlier>, AllocError>
-    ensures value { IfOk result (λ read. option_map (λ more. script more names.new) read ≡ by_command earlier names.old (Command.BySession action) (view value.now)) }
+    ensures value { IfOk result (λ read. option_map (λ more. script more names.new) read ≡ by_command earlier names.old (Command.BySession action) (object_data object.now)) }
     ensures few { IfOk result (λ read. read ≢ None → length names.new ≤ MAX_SESSIONS) }
 {
-    let Some(name) = name_of(alloc, value, "as")? else {
+    let Some(name) = name_of(alloc, object, "as")? else {
         return Ok(None);
     };
     let session = names.insert(name)?;
     if names.len() > MAX_SESSIONS {
         return Ok(None);
     }
-    let Some(line) = read_action_line(alloc, action, session as u32, value)? else {
+    let Some(line) = read_action_line(alloc, action, session as u32, object)? else {
         return Ok(None);
     };
     with(alloc, names, earlier, line)

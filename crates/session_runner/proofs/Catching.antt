@@ -19,7 +19,7 @@ use Rattle.run_rules.specs.Ending.{CatchesUp, CatchesUpIf, at_end, sending_acts,
 use Rattle.run_rules.specs.Lines.{Gets}
 use Rattle.book.specs.Shown.{Shown, adds}
 use Rattle.session_runner.specs.Clients.{GoesQuietly, is_at_most}
-use Rattle.session_runner.proofs.Lists.{same_item}
+use Rattle.journal_rules.proofs.Lists.{some_same}
 use Rattle.session_runner.proofs.Quiet.{quiet_none, quiet_one}
 
 -- ---- what a client sends, by its state, flight and pending
@@ -35,9 +35,9 @@ module _ (c : ℕ) (s : Client) (now : ℕ) where
   -- it is its own
   own_flight : (flight : Option (List Comp)) (pending : List Comp) (u : Update) → sends_flight c s now flight pending ≡ Some u → u.client ≡ Some c
   own_flight None [] u is = absurd (cc)
-  own_flight None (p ∷ ps) u is = ap (λ (x : Update). x.client) (sym (same_item (update_from c s now (s.number + 1) (p ∷ ps) []) u is))
+  own_flight None (p ∷ ps) u is = ap (λ (x : Update). x.client) (sym (some_same (update_from c s now (s.number + 1) (p ∷ ps) []) u is))
   own_flight (Some []) pending u is = absurd (cc)
-  own_flight (Some (f ∷ fs)) pending u is = ap (λ (x : Update). x.client) (sym (same_item (update_from c s now s.number (f ∷ fs) s.sources) u is))
+  own_flight (Some (f ∷ fs)) pending u is = ap (λ (x : Update). x.client) (sym (some_same (update_from c s now s.number (f ∷ fs) s.sources) u is))
 
   own_sent : (u : Update) → sending c s now ≡ Some u → u.client ≡ Some c
   own_sent u is = by s.state (sym (sends_is s.state) ∙ is)

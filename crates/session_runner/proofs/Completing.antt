@@ -11,7 +11,7 @@ use Rattle.session_runner.specs.Report.{report_of}
 use Rattle.session_runner.specs.Ending.{AreRun, CanBeTold, Explains, IsPart, IsTold, IsTextTold, IsWriting, WasLong, WasWhole, line_fault, status_of, text_of}
 use Rattle.session_runner.specs.Passing.{MayFail, Passed}
 use Rattle.session_runner.specs.Run.{Answers, Completes, IsCutShort, IsDone, IsEither, IsEitherRead, IsQuietRun, IsToWrite, IsWanting}
-use Rattle.session_runner.proofs.Lists.{same_item}
+use Rattle.journal_rules.proofs.Lists.{some_same}
 
 -- a text that was told as an ending's own
 pub told_text : (out : Passed) (own : ℕ) (text : List ℕ) (end : Ending) (status : ℕ) → IsWriting end → status_of end ≡ own → text_of end ≡ text → IsTextTold out own text status → IsTold out end status
@@ -22,14 +22,14 @@ consumed_short : (left rest : Option (List ℕ)) (all bytes : List ℕ) → left
 consumed_short None rest all bytes is c = absurd (cc)
 consumed_short (Some xs) None all bytes is c = absurd c
 consumed_short (Some xs) (Some ys) all bytes is c =
-    let same = ap length (same_item xs all is) in
+    let same = ap length (some_same xs all is) in
     let long = ap length c ∙ length-append bytes ys in
     omega (arith, same, long)
 
 consumed_whole : (left rest : Option (List ℕ)) (all bytes : List ℕ) → left ≡ Some all → Consumes left rest bytes → IsAtEnd rest → bytes ≡ all
 consumed_whole None rest all bytes is c end = absurd (cc)
 consumed_whole (Some xs) None all bytes is c end = absurd c
-consumed_whole (Some xs) (Some ys) all bytes is c end = sym (c ∙ ap (λ l. bytes ++ l) end ∙ append-nil bytes) ∙ same_item xs all is
+consumed_whole (Some xs) (Some ys) all bytes is c end = sym (c ∙ ap (λ l. bytes ++ l) end ∙ append-nil bytes) ∙ some_same xs all is
 
 -- what was taken is the same, however it is cut
 taken_once : (left rest : Option (List ℕ)) (all one other : List ℕ) → left ≡ Some all → Consumes left rest one → Consumes left rest other → length one ≡ length other

@@ -12,17 +12,14 @@ use Rattle.run_rules.specs.Lines.{Gets}
 use Rattle.book.specs.Shown.{Shown, adds}
 use Rattle.share_client.specs.Clients.{Numbered}
 use Rattle.session_runner.specs.Clients.{GoesQuietly}
-use Rattle.session_runner.proofs.Lists.{same_item}
+use Rattle.client_lines.proofs.Declining.{got_none}
+use Rattle.journal_rules.proofs.Lists.{some_same}
 use Rattle.session_runner.proofs.Quiet.{quiet_one}
 
 -- ---- the first of a list
 first_is : (ms : List Msg) (m : Msg) → Some m ≡ slice_get ms 0 → (rest : List Msg) × (ms ≡ m ∷ rest)
 first_is [] m is = absurd (cc)
-first_is (x ∷ xs) m is = (xs, ap (λ n. n ∷ xs) (sym (same_item m x is)))
-
-no_first : (ms : List Msg) → None ≡ slice_get ms 0 → ms ≡ []
-no_first [] is = refl
-no_first (x ∷ xs) is = absurd (cc)
+first_is (x ∷ xs) m is = (xs, ap (λ n. n ∷ xs) (sym (some_same m x is)))
 
 -- ---- one message more
 there : (o : Option Msg) → is_some o ≡ true → (m : Msg) × (o ≡ Some m)
@@ -72,4 +69,4 @@ not_there None none = refl
 not_there (Some x) none = absurd (true≢false none)
 
 pub gets_none : (line : Option ℕ) (c : ℕ) (j k : List Entry) (o : Option Msg) → is_some o ≡ false → o ≡ slice_get (mail c j) 0 → k ≡ j → Gets (entry_by 0 line) Alone c j k
-gets_none line c j k o none first same = (zero, (same, ap (mail c) same ∙ no_first (mail c j) (sym (not_there o none) ∙ first)))
+gets_none line c j k o none first same = (zero, (same, ap (mail c) same ∙ got_none (mail c j) (sym (not_there o none) ∙ first)))

@@ -30,6 +30,7 @@ use Rattle.book.specs.Calls.{raw_act, raw_act_of}
 use Rattle.book.specs.Shown.{Shown, adds}
 use Rattle.book.specs.declared.faults.Prepared.{Prepared}
 use Rattle.book.specs.declared.faults.RawUpdate.{RawUpdate}
+use Rattle.book.proofs.Locking.{at_within}
 use Rattle.session_runner.specs.declared.driver.Driver.{Driver}
 use Rattle.session_runner.specs.Apart.{GoesApart, IsApart, IsBehind, is_apart}
 use Rattle.session_runner.specs.Clients.{AreClientsOf, GoesQuietly, is_of_none}
@@ -54,20 +55,15 @@ both_ok A B (Ok x) a b = (a, b)
 both_ok A B (Err e) a b = tt
 
 -- ---- what a session keeps
-there_is : {A : Type 0} (xs : List A) (i : ℕ) → i < length xs → (x : A) × (slice_get xs i ≡ Some x)
-there_is [] i lt = absurd (omega (arith, lt))
-there_is (x ∷ xs) zero lt = (x, refl)
-there_is (x ∷ xs) (suc i) lt = there_is xs i (omega (arith, lt))
-
 pub keeps_none : (holds : List (Option Prepared)) (session : ℕ) (b : Bool) → session < length holds → ((o : Option Prepared) → slice_get holds session ≡ Some o → b ≡ is_some o) → b ≡ false → slice_get holds session ≡ Some None
-keeps_none holds session b lt tells none = let x = there_is holds session lt in by x.0 x.1
+keeps_none holds session b lt tells none = let x = at_within holds session lt in by x.0 x.1
   where
     by : (o : Option Prepared) → slice_get holds session ≡ Some o → slice_get holds session ≡ Some None
     by None at = at
     by (Some p) at = absurd (true≢false (sym (tells (Some p) at) ∙ none))
 
 pub keeps_some : (holds : List (Option Prepared)) (session : ℕ) (b : Bool) → session < length holds → ((o : Option Prepared) → slice_get holds session ≡ Some o → b ≡ is_some o) → b ≡ true → (p : Preparation) × (kept_in holds session ≡ Some p)
-keeps_some holds session b lt tells some = let x = there_is holds session lt in by x.0 x.1
+keeps_some holds session b lt tells some = let x = at_within holds session lt in by x.0 x.1
   where
     by : (o : Option Prepared) → slice_get holds session ≡ Some o → (p : Preparation) × (kept_in holds session ≡ Some p)
     by None at = absurd (true≢false (sym some ∙ tells None at))

@@ -1,5 +1,5 @@
 -- A line of a session's client: what it makes is the client's own, and the driver stands behind it.
-use Rattle.std.proofs.Common.{◌≡◌, ℕ, zero, suc, arith, ◌<◌, List, [], ◌∷◌, ◌++◌, length, slice_set, Bool, true, false, not, refl, sym, ap, ◌∙◌, subst, eq-eqb, append-nil}
+use Rattle.std.proofs.Common.{◌≡◌, ℕ, zero, suc, ◌+◌, arith, ◌<◌, List, [], ◌∷◌, ◌++◌, length, slice_set, Bool, true, false, not, refl, sym, ap, ◌∙◌, subst, eq-eqb, append-nil}
 use Rattle.std.specs.Prelude.{slice_get, slice_index_or, Option, Some, None, nat_lt, if◌then◌else◌}
 use Rattle.std.proofs.lemmas.List.{length-set}
 use Rattle.ot_op.specs.declared.comp.Comp.{Comp}
@@ -12,16 +12,21 @@ use Rattle.journal_entries.specs.declared.act.Entry.{Entry}
 use Rattle.journal_entries.specs.declared.why.Why.TheVariants.{NotJoined, PastEnd, Full, InFlight, Nothing}
 use Rattle.journal_rules.specs.Client.{Client, client, has_flight, sending}
 use Rattle.journal_rules.specs.Legal.{source_at, units}
+use Rattle.journal_rules.specs.Deciding.{greatest_age}
 use Rattle.journal_rules.specs.Documents.{version}
 use Rattle.journal_rules.specs.Locks.{clock, next_token}
 use Rattle.journal_rules.specs.Mail.{mail}
 use Rattle.journal_laws.proofs.Updates.{Sends, Fresh, Again, sending_is}
-use Rattle.turn_rules.specs.Clients.{edit_act, edit_act_of, got_act, is_full, is_joined, recv_act, send_act, sent_or_nothing}
+use Rattle.turn_rules.specs.Clients.{edit_act, edit_act_of, got_act, is_full, is_joined, is_left, is_present, leave_act, recv_act, rejoin_act, resend_act, send_act, sent_or_nothing}
 use Rattle.turn_rules.specs.Turns.{Alone, Turn, entry_by}
 use Rattle.turn_rules.specs.Draining.{Caches}
 use Rattle.journal_rules.specs.Keeping.{cached}
 use Rattle.run_rules.specs.Lines.{Joins}
 use Rattle.share_client.specs.Clients.{Numbered}
+use Rattle.share_client.specs.Edits.{edit_comp, edit_end}
+use Rattle.client_lines.specs.declared.line.ClientLine.{ClientLine}
+use Rattle.client_lines.specs.declared.line.ClientLine.TheVariants.{Edit, Send, Resend, Receive, Leave, Rejoin}
+use Rattle.client_lines.specs.Lines.{client_act}
 use Rattle.client_lines.specs.Joining.{join_act}
 use Rattle.book.specs.Roomed.{IsClientAfter, IsClientOf}
 use Rattle.book.specs.Shown.{Shown, adds}
@@ -49,7 +54,7 @@ own_if : (session : ℕ) (b : Bool) (x y : Act) → IsOwn session x → IsOwn se
 own_if session true x y own other = own
 own_if session false x y own other = other
 
-pub own_edit : (session : ℕ) (j : List Entry) (end : ℕ) (comp : Comp) → IsOwn session (edit_act session j end comp)
+own_edit : (session : ℕ) (j : List Entry) (end : ℕ) (comp : Comp) → IsOwn session (edit_act session j end comp)
 own_edit session j end comp =
     let s = client session j in
     let p = appended s.pending comp in
@@ -65,18 +70,41 @@ sent_own session s now (Some u) is = record { quiet = refl; its = by (sending_is
     by (Fresh none same) = subst (λ (v : Update). is_at_most session v.client ≡ true) (sym same) (eq-eqb session session refl)
     by (Again f flies same) = subst (λ (v : Update). is_at_most session v.client ≡ true) (sym same) (eq-eqb session session refl)
 
-pub own_send : (session : ℕ) (j : List Entry) → IsOwn session (send_act session j)
+own_send : (session : ℕ) (j : List Entry) → IsOwn session (send_act session j)
 own_send session j =
     let s = client session j in
     own_if session (not (is_joined s.state)) _ _ (record { quiet = refl; its = refl })
     (own_if session (has_flight s.flight) _ _ (record { quiet = refl; its = refl }) (sent_own session s (clock j) (sending session s (clock j)) refl))
 
-pub own_receive : (session : ℕ) (j : List Entry) → IsOwn session (recv_act session j)
+own_receive : (session : ℕ) (j : List Entry) → IsOwn session (recv_act session j)
 own_receive session j = by (mail session j)
   where
     by : (ms : List Msg) → IsOwn session (got_act session ms)
     by [] = record { quiet = refl; its = refl }
     by (m ∷ ms) = record { quiet = refl; its = eq-eqb session session refl }
+
+own_resend : (session : ℕ) (j : List Entry) → IsOwn session (resend_act session j)
+own_resend session j =
+    let s = client session j in
+    own_if session (not (is_joined s.state)) _ _ (record { quiet = refl; its = refl })
+    (own_if session (has_flight s.flight) _ _ (sent_own session s (clock j) (sending session s (clock j)) refl) (record { quiet = refl; its = refl }))
+
+own_leave : (session : ℕ) (j : List Entry) → IsOwn session (leave_act session j)
+own_leave session j = own_if session (is_present (client session j).state) _ _ (record { quiet = refl; its = eq-eqb session session refl }) (record { quiet = refl; its = refl })
+
+own_rejoin : (session : ℕ) (j : List Entry) → IsOwn session (rejoin_act session j)
+own_rejoin session j =
+    let s = client session j in
+    own_if session (not (is_left s.state)) _ _ (record { quiet = refl; its = refl })
+    (own_if session (nat_lt (s.version + greatest_age) (version s.doc j)) _ _ (record { quiet = refl; its = refl }) (record { quiet = refl; its = eq-eqb session session refl }))
+
+pub own_line : (session : ℕ) (j : List Entry) (line : ClientLine) → IsOwn session (client_act session j line)
+own_line session j (Edit edit) = own_edit session j (edit_end edit) (edit_comp (client session j).text edit)
+own_line session j Send = own_send session j
+own_line session j Resend = own_resend session j
+own_line session j Receive = own_receive session j
+own_line session j Leave = own_leave session j
+own_line session j Rejoin = own_rejoin session j
 
 pub own_join : (session : ℕ) (doc : Option ℕ) (user : List ℕ) (track : Bool) (j : List Entry) → IsOwn session (join_act session doc user track j)
 own_join session None user track j = record { quiet = refl; its = refl }

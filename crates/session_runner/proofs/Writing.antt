@@ -1,6 +1,6 @@
 -- The lines of a report, cut where the writing stands.
 use Rattle.std.proofs.Common.{◌≡◌, ◌⊎◌, ℕ, zero, suc, ◌+◌, ◌<◌, ◌≤◌, List, [], ◌∷◌, ◌++◌, length, take, drop, get_or, sym, ap, ap₂, ◌∙◌, subst, arith, append-nil, append_assoc, inl, inr}
-use Rattle.std.specs.Prelude.{Option, None, Some}
+use Rattle.std.specs.Prelude.{Option, None, Some, unwrap_or}
 use Rattle.std.proofs.lemmas.Bool.{cases_lt}
 use Rattle.std.proofs.lemmas.List.{take_more, take-append-drop, length-take-le}
 use Rattle.json_lines.specs.Object.{line_of}
@@ -15,7 +15,7 @@ use Rattle.report_text.specs.Entries.{entry_members}
 use Rattle.ranges_tracker.specs.declared.change.Change.{Change}
 use Rattle.ranges_tracker.specs.declared.comment.Comment.{Comment}
 use Rattle.run_rules.specs.Report.{client_line, client_lines}
-use Rattle.session_runner.specs.Report.{document_end, document_line, document_lines, entry_lines, text_or_none}
+use Rattle.session_runner.specs.Report.{document_end, document_line, document_lines, entry_lines}
 
 -- what is a part of a front is a part of the whole
 pub longer : (start now : Option (List ℕ)) (held text front back whole : List ℕ) → front ++ back ≡ whole → DeliveredPrefix start now held (text ++ front) → DeliveredPrefix start now held (text ++ whole)
@@ -67,8 +67,8 @@ pub document_line_is : (d : ℕ) (j : List Entry) (n t : List ℕ) (r : List Cha
     → line_of (document_members (record { b = 0; doc = d; kept = None; name = n; ranges = r; text = t; v = v })) ≡ document_line d j
 document_line_is d j n t r v name_is text_is ranges_are version_is =
     ap (λ (end : DocEnd). line_of (document_members end)) (
-    ap₂ (λ (n : List ℕ) (t : List ℕ). record { b = 0; doc = d; kept = None; name = n; ranges = r; text = t; v = v }) name_is (sym (ap text_or_none text_is))
-    ∙ ap₂ (λ (r : List Change × List Comment) (v : ℕ). record { b = 0; doc = d; kept = None; name = name d j; ranges = r; text = text_or_none (text d j); v = v }) ranges_are version_is
+    ap₂ (λ (n : List ℕ) (t : List ℕ). record { b = 0; doc = d; kept = None; name = n; ranges = r; text = t; v = v }) name_is (sym (ap (λ (o : Option (List ℕ)). unwrap_or o []) text_is))
+    ∙ ap₂ (λ (r : List Change × List Comment) (v : ℕ). record { b = 0; doc = d; kept = None; name = name d j; ranges = r; text = unwrap_or (text d j) []; v = v }) ranges_are version_is
     )
 
 -- one line more, put beside those before it

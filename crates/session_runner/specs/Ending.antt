@@ -11,6 +11,7 @@ use Rattle.session_lines.specs.declared.script.Script.{Script}
 use Rattle.session_lines.specs.declared.fault.ScriptFault.{ScriptFault}
 use Rattle.session_lines.specs.declared.fault.ScriptFault.TheVariants as read
 use Rattle.session_lines.specs.Script.{script_of}
+use Rattle.ending_rules.specs.Ended.{HasEnded}
 use Rattle.run_rules.specs.Follows.{FollowsUnflushed}
 use Rattle.session_runner.specs.declared.ending.Ending.{Ending}
 use Rattle.session_runner.specs.declared.ending.Ending.TheVariants as ending
@@ -59,13 +60,14 @@ fault_in (Err read.Memory) = None
 abbrev pub line_fault : List ℕ → Option LineFault
 line_fault bytes = fault_in (script_of bytes)
 
--- an input is a script, and a legal journal follows it
+-- an input is a script, and a legal journal follows it: each update was committed once, and each client that is joined rests
 pub record IsRun (bytes : List ℕ) (journal : List Entry) : Type 0 where
   pub script : Script
   pub read : script_of bytes ≡ Ok script
   pub no_fault : line_fault bytes ≡ None
   pub legal : IsLegal journal
   pub follows : FollowsUnflushed script.lines script.sessions journal
+  pub ended : HasEnded journal
 
 -- a fault that names a line, as it is written
 abbrev pub line_text : ℕ → List ℕ → List ℕ

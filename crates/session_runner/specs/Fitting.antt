@@ -5,7 +5,7 @@ use Rattle.journal_rules.specs.Documents.{Making, is_named}
 use Rattle.journal_rules.specs.Deciding.{longest}
 use Rattle.journal_rules.specs.Legal.{IsRaw, highest_base}
 use Rattle.session_lines.specs.declared.line.Line.{Line}
-use Rattle.session_lines.specs.declared.line.Line.TheVariants.{Doc, Tick, Raw, Join, Send, Recv, Ins, Del, Com, Sync, Drain, Hold, Finish}
+use Rattle.session_lines.specs.declared.line.Line.TheVariants.{Doc, Tick, Raw, Join, Rejoin, Leave, Send, Resend, Recv, Ins, Del, Com, Sync, Drain, Hold, Finish}
 
 -- the commands that are built so far
 abbrev pub is_built : Line → Bool
@@ -13,7 +13,10 @@ is_built (Doc doc project text v) = true
 is_built (Tick session ms) = true
 is_built (Raw session doc user source dup track v op) = true
 is_built (Join session doc user track) = true
+is_built (Rejoin session) = true
+is_built (Leave session) = true
 is_built (Send session) = true
+is_built (Resend session) = true
 is_built (Recv session) = true
 is_built (Ins session p text) = true
 is_built (Del session p n) = true

@@ -1,5 +1,5 @@
 -- What is written of a journal: a line for each entry, then a line for each document, and then one for each client that ever joined.
-use Rattle.std.specs.Prelude.{ℕ, ◌+◌, zero, suc, List, [], ◌∷◌, ◌++◌, length, Option, Some, None, Result, Ok, Err}
+use Rattle.std.specs.Prelude.{ℕ, ◌+◌, zero, suc, List, [], ◌∷◌, ◌++◌, length, None, Result, Ok, Err, unwrap_or}
 use Rattle.json_lines.specs.Object.{line_of}
 use Rattle.ranges_tracker.specs.Shown.{shown}
 use Rattle.report_text.specs.declared.document_end.DocEnd.{DocEnd}
@@ -13,15 +13,10 @@ use Rattle.session_lines.specs.declared.script.Script.{Script}
 use Rattle.session_lines.specs.declared.fault.ScriptFault.{ScriptFault}
 use Rattle.session_lines.specs.Script.{script_of}
 
--- the text of a document, which a legal journal always gives
-abbrev pub text_or_none : Option (List ℕ) → List ℕ
-text_or_none (Some text) = text
-text_or_none None = []
-
--- a document of board 0 at its version: its text, and what its cells show. It is not flushed
+-- a document of board 0 at its version: its text, which a legal journal always gives, and what its cells show. It is not flushed
 abbrev pub document_end : ℕ → List Entry → DocEnd
 document_end doc journal =
-    record { b = 0; doc = doc; kept = None; name = name doc journal; ranges = shown (cells doc journal); text = text_or_none (text doc journal); v = version doc journal }
+    record { b = 0; doc = doc; kept = None; name = name doc journal; ranges = shown (cells doc journal); text = unwrap_or (text doc journal) []; v = version doc journal }
 
 abbrev pub document_line : ℕ → List Entry → List ℕ
 document_line doc journal = line_of (document_members (document_end doc journal))

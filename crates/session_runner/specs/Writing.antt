@@ -4,6 +4,6 @@ use Rattle.source_sink.specs.Buffered.{Delivered, DeliveredPrefix}
 use Rattle.session_runner.specs.declared.report.WriteFault.{WriteFault}
 
 -- the whole text has gone to a buffer before the sink, or a part of it
-abbrev pub Pushed : Option (List ℕ) → Option (List ℕ) → List ℕ → List ℕ → Result (Unit {0}) WriteFault → Type 0
+abbrev pub Pushed : {A : Type 0} → Option (List ℕ) → Option (List ℕ) → List ℕ → List ℕ → Result A WriteFault → Type 0
 Pushed start now held text (Ok done) = Delivered start now held text
 Pushed start now held text (Err fault) = DeliveredPrefix start now held text

@@ -19,7 +19,7 @@ ghost use Rattle.session_runner.specs.Clients.{AreClientsOf, GoesQuietly, StayAl
 use crate::driver::tick;
 use crate::mail::receive_all;
 use book::{Book, By};
-use dispatcher::{DrainEnd, drain, legal};
+use dispatcher::{DrainEnd, drain};
 use expiring_lock::LOCK_LIFE;
 use journal_rules::ClientState;
 use share_client::{SendFault, ShareClient};
@@ -51,7 +51,7 @@ pub(crate) fn end_run(
 {
     book.close_driver(AT_END, 0);
     tick(book, AT_END, LOCK_LIFE)?;
-    legal(book);
+    book.legal();
     go_rounds(alloc, book, clients)
 }
 
@@ -155,7 +155,7 @@ fn drain_dry(alloc: Global, book: &mut Book, doc: u32) -> Result<(), AllocError>
 {
     let most = book.waiting(doc);
     let end = drain(alloc, book, AT_END, doc, most);
-    legal(book);
+    book.legal();
     match end {
         DrainEnd::Done { .. } => Ok(()),
         DrainEnd::Memory { .. } => Err(AllocError),

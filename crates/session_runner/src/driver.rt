@@ -18,9 +18,8 @@ ghost use Rattle.session_runner.specs.Apart.{GoesApart, IsBehind};
 ghost use Rattle.session_runner.specs.Clients.{AreClientsOf, GoesQuietly};
 ghost use Rattle.session_runner.specs.Syncing.{GoesApartThenQuietly};
 ghost use Rattle.share_client.specs.Clients.{Numbered};
-ghost use Rattle.share_client.specs.Edits.{IsEdit, edit_comp, edit_end};
-ghost use Rattle.journal_rules.specs.Client.{away as away_lem, client as client_lem};
-ghost use Rattle.turn_rules.specs.Clients.{edit_act, recv_act, send_act};
+ghost use Rattle.client_lines.specs.Lines.{IsDoable, client_act};
+ghost use Rattle.journal_rules.specs.Client.{away as away_lem};
 ghost use Rattle.session_runner.specs.declared.driver.Left.{Left};
 ghost use Rattle.std.specs.Global.{Vec};
 ghost use Rattle.session_runner.specs.Fitting.{AreBuilt, AreFit, IsFit, is_built};
@@ -30,7 +29,7 @@ use crate::syncing::sync_client;
 use book::{
     AcquireFault, Book, By, CommitFault, MakeFault, Prepared, RawFault, RawUpdate, TickFault,
 };
-use client_lines::join_named;
+use client_lines::{ClientLine, join_named};
 use dispatcher::{DrainEnd, drain, prepare};
 use journal_entries::Why;
 use ot_units::{Name, Units};
@@ -152,19 +151,33 @@ impl Driver {
                 user,
                 track,
             } => self.join(by, session, &doc, &user, track),
-            Line::Ins { session, p, s } => self.edit(by, session, &Edit::Insert { at: p, text: s }),
-            Line::Del { session, p, n } => self.edit(by, session, &Edit::Delete { at: p, len: n }),
-            Line::Com { session, p, n, t } => self.edit(
-                by,
-                session,
-                &Edit::Comment {
+            Line::Ins { session, p, s } => {
+                self.tell(
+                    by,
+                    session,
+                    &ClientLine::Edit(Edit::Insert { at: p, text: s }),
+                )
+            }
+            Line::Del { session, p, n } => {
+                self.tell(
+                    by,
+                    session,
+                    &ClientLine::Edit(Edit::Delete { at: p, len: n }),
+                )
+            }
+            Line::Com { session, p, n, t } => {
+                let comment = Edit::Comment {
                     at: p,
                     len: n,
                     thread: t,
-                },
-            ),
-            Line::Send { session } => self.send(by, session),
-            Line::Recv { session } => self.receive(by, session),
+                };
+                self.tell(by, session, &ClientLine::Edit(comment))
+            }
+            Line::Send { session } => self.tell(by, session, &ClientLine::Send),
+            Line::Resend { session } => self.tell(by, session, &ClientLine::Resend),
+            Line::Recv { session } => self.tell(by, session, &ClientLine::Receive),
+            Line::Leave { session } => self.tell(by, session, &ClientLine::Leave),
+            Line::Rejoin { session } => self.tell(by, session, &ClientLine::Rejoin),
             Line::Sync { session } => self.sync(alloc, by, session),
             Line::Drain { session, doc } => drain_named(
                 alloc,
@@ -202,13 +215,13 @@ impl Driver {
         join_named(&mut self.book, client, by, doc, user, track)
     }
 
-    // A session's client edits its text.
-    fn edit(&mut self, by: By, session: u32, edit: &Edit) -> Result<(), AllocError>
+    // A session's client does what a line tells it.
+    fn tell(&mut self, by: By, session: u32, line: &ClientLine) -> Result<(), AllocError>
         requires driver { IsDriver self.old }
         requires session { session < length self.old.holds.items }
         requires seat { by.seat ≡ 0 }
-        requires edit { IsEdit edit.now }
-        ensures edits { OnOk result (self.new.book ≡ adds self.old.book 0 by.line (edit_act session self.old.book.journal (edit_end edit.now) (edit_comp (client_lem session self.old.book.journal).text edit.now) ∷ [])) }
+        requires doable { IsDoable line.now }
+        ensures does { OnOk result (self.new.book ≡ adds self.old.book 0 by.line (client_act session self.old.book.journal line.now ∷ [])) }
         ensures driver { OnOk result (IsDriver self.new) }
         ensures holds { self.new.holds ≡ self.old.holds }
         ensures quiet { OnOk result (GoesQuietly session self.old.book.journal self.new.book.journal) }
@@ -216,39 +229,7 @@ impl Driver {
         let Some(client) = self.clients.get_mut(session as usize) else {
             unreachable!()
         };
-        client_lines::edit(&mut self.book, client, by, edit)
-    }
-
-    // A session's client sends what is pending.
-    fn send(&mut self, by: By, session: u32) -> Result<(), AllocError>
-        requires driver { IsDriver self.old }
-        requires session { session < length self.old.holds.items }
-        requires seat { by.seat ≡ 0 }
-        ensures sends { OnOk result (self.new.book ≡ adds self.old.book 0 by.line (send_act session self.old.book.journal ∷ [])) }
-        ensures driver { OnOk result (IsDriver self.new) }
-        ensures holds { self.new.holds ≡ self.old.holds }
-        ensures quiet { OnOk result (GoesQuietly session self.old.book.journal self.new.book.journal) }
-    {
-        let Some(client) = self.clients.get_mut(session as usize) else {
-            unreachable!()
-        };
-        client_lines::send(&mut self.book, client, by)
-    }
-
-    // A session's client gets the first message of its mail.
-    fn receive(&mut self, by: By, session: u32) -> Result<(), AllocError>
-        requires driver { IsDriver self.old }
-        requires session { session < length self.old.holds.items }
-        requires seat { by.seat ≡ 0 }
-        ensures gets { OnOk result (self.new.book ≡ adds self.old.book 0 by.line (recv_act session self.old.book.journal ∷ [])) }
-        ensures driver { OnOk result (IsDriver self.new) }
-        ensures holds { self.new.holds ≡ self.old.holds }
-        ensures quiet { OnOk result (GoesQuietly session self.old.book.journal self.new.book.journal) }
-    {
-        let Some(client) = self.clients.get_mut(session as usize) else {
-            unreachable!()
-        };
-        client_lines::receive(&mut self.book, client, by)
+        client_lines::do_line(&mut self.book, client, by, line)
     }
 
     // A session's document is drained, and its client gets all of its mail.

@@ -4,6 +4,8 @@ ghost use Rattle.std.specs.Prelude.{◌≡◌, ◌≤◌, ◌<◌, ◌↔◌, �
 ghost use Rattle.std.specs.Fmt.{decimal};
 ghost use Rattle.session_lines.specs.Script.{script_of};
 ghost use Rattle.session_lines.specs.Standing.{AreBySessions, AreSlow};
+ghost use Rattle.ending_rules.specs.Ended.{HasEnded};
+ghost use Rattle.journal_rules.specs.Legal.{IsLegal};
 ghost use Rattle.run_rules.specs.Follows.{FollowsUnflushed};
 ghost use Rattle.session_runner.specs.Ending.{AreRun, CanBeTold, EndsAs, Explains, IsTextTold, IsTold, fault_in, fault_text, first_unbuilt as first_unbuilt_lem, line_text};
 ghost use Rattle.session_runner.specs.Fitting.{AreBuilt, AreFit, is_built as is_built_lem};
@@ -15,7 +17,6 @@ use crate::closing::end_run;
 use crate::driver::{Left, do_lines};
 use crate::report::{WriteFault, write_report};
 use book::Book;
-use dispatcher::legal;
 use session_lines::{Line, Names, Script, ScriptFault, read_script};
 use share_client::ShareClient;
 use source_sink::{ReadFault, Sink, Source, read_all, write_all};
@@ -98,14 +99,11 @@ fn ending_of(alloc: Global, bytes: &[u8]) -> Ending
         names,
     } = script;
     match run_lines(alloc, lines.into_vec(), sessions) {
-        Ok(Left { book, clients }) => {
-            legal(&book);
-            Ending::Done(Run {
-                book,
-                clients,
-                names,
-            })
-        }
+        Ok(Left { book, clients }) => Ending::Done(Run {
+            book,
+            clients,
+            names,
+        }),
         Err(_) => Ending::Memory,
     }
 }
@@ -136,7 +134,10 @@ fn is_built(line: &Line) -> bool
             | Line::Tick { .. }
             | Line::Raw { .. }
             | Line::Join { .. }
+            | Line::Rejoin { .. }
+            | Line::Leave { .. }
             | Line::Send { .. }
+            | Line::Resend { .. }
             | Line::Recv { .. }
             | Line::Ins { .. }
             | Line::Del { .. }
@@ -154,7 +155,9 @@ fn run_lines(alloc: Global, lines: Vec<Line>, sessions: u32) -> Result<Left, All
     requires numbered { AreBySessions sessions lines.items }
     requires slow { AreSlow 16777216 lines.items }
     requires few { length lines.items ≤ 16777216 }
+    ensures legal { IfOk result (λ (left : Left). IsLegal left.book.journal) }
     ensures follows { IfOk result (λ (left : Left). FollowsUnflushed lines.items sessions left.book.journal) }
+    ensures ended { IfOk result (λ (left : Left). HasEnded left.book.journal) }
     ensures clients { IfOk result (λ (left : Left). AreClientsOf left.clients.items left.book.journal) }
     ensures many { IfOk result (λ (left : Left). length left.clients.items ≡ sessions) }
 {
@@ -163,6 +166,7 @@ fn run_lines(alloc: Global, lines: Vec<Line>, sessions: u32) -> Result<Left, All
         mut clients,
     } = do_lines(alloc, lines, sessions)?;
     end_run(alloc, &mut book, &mut clients)?;
+    book.legal();
     Ok(Left { book, clients })
 }
 

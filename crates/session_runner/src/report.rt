@@ -1,7 +1,7 @@
 //! The report of a journal: a line for each entry, then a line for each document, and then one for
 //! each client that ever joined.
 
-ghost use Rattle.std.specs.Prelude.{◌≡◌, ◌<◌, ◌^◌, ◌++◌, ℕ, List, Option, length, IfOk};
+ghost use Rattle.std.specs.Prelude.{◌≡◌, ◌<◌, ◌^◌, ◌++◌, ℕ, List, [], Option, length, IfOk};
 ghost use Rattle.source_sink.specs.Buffered.{Delivered};
 ghost use Rattle.source_sink.specs.Causes.{HasCauseOf};
 ghost use Rattle.source_sink.specs.Outside.{Wrote};
@@ -18,7 +18,7 @@ use journal_rules::ClientState;
 use ot_op::Op;
 use ot_text::doc_units;
 use ot_units::{Name, Units};
-use report_text::{ClientEnd, DocEnd, EndState, client_line, doc_line, entry_line};
+use report_text::{ClientEnd, DocEnd, EndState, append_entry_line, client_line, doc_line};
 use share_client::ShareClient;
 use source_sink::{Failed, Sink, WriteBuffer};
 use std::alloc::{AllocError, Global};
@@ -92,8 +92,10 @@ fn write_entries<W: Sink>(
         → Pushed start (W.written out.new) buffer.new (text ++ entry_lines 0 journal.now) result }
     ensures cause { HasCauseOf (W.count out.old) (W.count out.new) result WriteFault.Failed }
 {
+    let mut line = Vec::new(alloc);
     for (n, entry) in journal.iter().enumerate() {
-        write_line(entry_line(alloc, 0, n as u64, entry, &[]), buffer, out)?;
+        let made = append_entry_line(alloc, line, 0, n as u64, entry, &[]);
+        line = write_line(made, buffer, out)?;
     }
     Ok(())
 }
@@ -137,20 +139,23 @@ fn write_clients<W: Sink>(
     Ok(())
 }
 
+// Hands a line on, and gives its memory back for the next one.
 fn write_line<W: Sink>(
     line: Result<Vec<u8>, AllocError>,
     buffer: &mut WriteBuffer,
     out: &mut W,
-) -> Result<(), WriteFault>
+) -> Result<Vec<u8>, WriteFault>
+    ensures emptied { IfOk result (λ line. line.items ≡ []) }
     ensures pushed { (start : Option (List ℕ)) (text bytes : List ℕ) → IfOk line (λ made. made.items ≡ bytes) → Delivered start (W.written out.old) buffer.old text
         → Pushed start (W.written out.new) buffer.new (text ++ bytes) result }
     ensures cause { HasCauseOf (W.count out.old) (W.count out.new) result WriteFault.Failed }
 {
     match line {
-        Ok(line) => match buffer.push(out, &line) {
-            Ok(()) => Ok(()),
-            Err(_) => Err(WriteFault::Failed),
-        },
+        Ok(mut line) => {
+            buffer.push(out, &line)?;
+            line.clear();
+            Ok(line)
+        }
         Err(_) => Err(WriteFault::Memory),
     }
 }

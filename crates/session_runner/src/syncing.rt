@@ -13,7 +13,7 @@ ghost use Rattle.session_runner.specs.Syncing.{GoesApartThenQuietly};
 
 use crate::mail::receive_all;
 use book::{Book, By};
-use dispatcher::{DrainEnd, drain, legal};
+use dispatcher::{DrainEnd, drain};
 use journal_entries::Why;
 use journal_rules::ClientState;
 use share_client::ShareClient;
@@ -51,7 +51,7 @@ fn drain_waiting(alloc: Global, book: &mut Book, by: By, doc: u32) -> Result<(),
     ensures apart { OnOk result (GoesApart (next_token book.old.journal) book.old.journal book.new.journal) }
     ensures drivers { OnOk result (book.new.drivers ≡ book.old.drivers) }
 {
-    legal(book);
+    book.legal();
     let most = book.waiting(doc);
     if most == 0 {
         return Ok(());

@@ -404,6 +404,107 @@ fn clients_are_told_why_nothing_is_done(rt: HostRuntime) -> Result<(), Fail> {
 }
 
 #[test]
+fn clients_send_again_and_come_back(rt: HostRuntime) -> Result<(), Fail> {
+    // an update that is sent twice is applied once
+    check(
+        &rt,
+        rt.alloc(),
+        "run",
+        0,
+        &[
+            "{'do':'doc','doc':'a','project':'p','text':'ab'}",
+            "{'as':'c','do':'join','doc':'a','user':'u'}",
+            "{'as':'c','do':'ins','p':1,'s':'X'}",
+            "{'as':'c','do':'send'}",
+            "{'as':'c','do':'resend'}",
+            "{'as':'c','do':'sync'}",
+        ],
+        &[
+            "{'b':0,'base':0,'doc':0,'e':'made','line':1,'n':0,'name':'a','project':'p','seat':0,'text':'ab'}",
+            "{'b':0,'client':0,'doc':0,'e':'joined','from':null,'line':2,'n':1,'seat':0,'source':1000001,'track':false,'user':'u','v':0}",
+            "{'b':0,'client':0,'e':'edited','line':3,'n':2,'op':[{'i':'X','p':1}],'seat':0}",
+            "{'b':0,'client':0,'doc':0,'dup':[],'e':'sent','line':4,'ms':0,'n':3,'number':1,'op':[{'i':'X','p':1}],'seat':0,'source':1000001,'track':false,'user':'u','v':0}",
+            "{'b':0,'client':0,'doc':0,'dup':[1000001],'e':'sent','line':5,'ms':0,'n':4,'number':1,'op':[{'i':'X','p':1}],'seat':0,'source':1000001,'track':false,'user':'u','v':0}",
+            "{'b':0,'doc':0,'e':'acquired','line':6,'n':5,'seat':0,'token':1,'until':30000}",
+            "{'b':0,'doc':0,'e':'committed','line':6,'n':6,'op':[{'i':'X','p':1}],'out':'applied','seat':0,'ticket':3,'token':1,'v':0}",
+            "{'b':0,'doc':0,'e':'released','line':6,'n':7,'seat':0,'token':1}",
+            "{'b':0,'doc':0,'e':'acquired','line':6,'n':8,'seat':0,'token':2,'until':30000}",
+            "{'b':0,'doc':0,'e':'committed','line':6,'n':9,'out':'dup','seat':0,'ticket':4,'token':2,'v':0}",
+            "{'b':0,'doc':0,'e':'released','line':6,'n':10,'seat':0,'token':2}",
+            "{'b':0,'client':0,'e':'got','line':6,'msg':'ack','n':11,'seat':0,'v':0}",
+            "{'b':0,'client':0,'e':'got','line':6,'msg':'ack','n':12,'seat':0,'v':0}",
+            "{'b':0,'driver':0,'e':'closed','line':null,'n':13,'seat':0}",
+            "{'b':0,'e':'ticked','line':null,'ms':30000,'n':14,'seat':0}",
+            "{'b':0,'changes':[],'comments':[],'doc':0,'e':'doc','kept':null,'name':'a','text':'aXb','v':1}",
+            "{'b':0,'client':0,'doc':0,'e':'client','flight':null,'name':'c','pending':[],'state':'joined','text':'aXb','v':1}",
+        ],
+    )?;
+    // what was applied while a client was away answers its update
+    check(
+        &rt,
+        rt.alloc(),
+        "run",
+        0,
+        &[
+            "{'do':'doc','doc':'a','project':'p','text':'ab'}",
+            "{'as':'c','do':'join','doc':'a','user':'u'}",
+            "{'as':'c','do':'ins','p':1,'s':'X'}",
+            "{'as':'c','do':'send'}",
+            "{'as':'c','do':'leave'}",
+            "{'as':'w','do':'drain','doc':'a'}",
+            "{'as':'c','do':'rejoin'}",
+            "{'as':'c','do':'resend'}",
+        ],
+        &[
+            "{'b':0,'base':0,'doc':0,'e':'made','line':1,'n':0,'name':'a','project':'p','seat':0,'text':'ab'}",
+            "{'b':0,'client':0,'doc':0,'e':'joined','from':null,'line':2,'n':1,'seat':0,'source':1000001,'track':false,'user':'u','v':0}",
+            "{'b':0,'client':0,'e':'edited','line':3,'n':2,'op':[{'i':'X','p':1}],'seat':0}",
+            "{'b':0,'client':0,'doc':0,'dup':[],'e':'sent','line':4,'ms':0,'n':3,'number':1,'op':[{'i':'X','p':1}],'seat':0,'source':1000001,'track':false,'user':'u','v':0}",
+            "{'b':0,'client':0,'e':'left','line':5,'n':4,'seat':0}",
+            "{'b':0,'doc':0,'e':'acquired','line':6,'n':5,'seat':0,'token':1,'until':30000}",
+            "{'b':0,'doc':0,'e':'committed','line':6,'n':6,'op':[{'i':'X','p':1}],'out':'applied','seat':0,'ticket':3,'token':1,'v':0}",
+            "{'b':0,'doc':0,'e':'released','line':6,'n':7,'seat':0,'token':1}",
+            "{'b':0,'client':0,'doc':0,'e':'joined','from':0,'line':7,'n':8,'seat':0,'source':1000008,'track':false,'user':'u','v':1}",
+            "{'b':0,'e':'declined','line':8,'n':9,'seat':0,'session':0,'why':'nothing'}",
+            "{'b':0,'driver':0,'e':'closed','line':null,'n':10,'seat':0}",
+            "{'b':0,'e':'ticked','line':null,'ms':30000,'n':11,'seat':0}",
+            "{'b':0,'changes':[],'comments':[],'doc':0,'e':'doc','kept':null,'name':'a','text':'aXb','v':1}",
+            "{'b':0,'client':0,'doc':0,'e':'client','flight':null,'name':'c','pending':[],'state':'joined','text':'aXb','v':1}",
+        ],
+    )?;
+    // a client that is away can do neither, and one that is joined has nothing to send again
+    check(
+        &rt,
+        rt.alloc(),
+        "run",
+        0,
+        &[
+            "{'do':'doc','doc':'a','project':'p','text':'ab'}",
+            "{'as':'c','do':'leave'}",
+            "{'as':'c','do':'rejoin'}",
+            "{'as':'c','do':'resend'}",
+            "{'as':'c','do':'join','doc':'a','user':'u'}",
+            "{'as':'c','do':'resend'}",
+            "{'as':'c','do':'rejoin'}",
+        ],
+        &[
+            "{'b':0,'base':0,'doc':0,'e':'made','line':1,'n':0,'name':'a','project':'p','seat':0,'text':'ab'}",
+            "{'b':0,'e':'declined','line':2,'n':1,'seat':0,'session':0,'why':'not-joined'}",
+            "{'b':0,'e':'declined','line':3,'n':2,'seat':0,'session':0,'why':'not-left'}",
+            "{'b':0,'e':'declined','line':4,'n':3,'seat':0,'session':0,'why':'not-joined'}",
+            "{'b':0,'client':0,'doc':0,'e':'joined','from':null,'line':5,'n':4,'seat':0,'source':1000004,'track':false,'user':'u','v':0}",
+            "{'b':0,'e':'declined','line':6,'n':5,'seat':0,'session':0,'why':'nothing'}",
+            "{'b':0,'e':'declined','line':7,'n':6,'seat':0,'session':0,'why':'not-left'}",
+            "{'b':0,'driver':0,'e':'closed','line':null,'n':7,'seat':0}",
+            "{'b':0,'e':'ticked','line':null,'ms':30000,'n':8,'seat':0}",
+            "{'b':0,'changes':[],'comments':[],'doc':0,'e':'doc','kept':null,'name':'a','text':'ab','v':0}",
+            "{'b':0,'client':0,'doc':0,'e':'client','flight':null,'name':'c','pending':[],'state':'joined','text':'ab','v':0}",
+        ],
+    )?;
+    Ok(())
+}
+
+#[test]
 fn drains_what_waits(rt: HostRuntime) -> Result<(), Fail> {
     // A line drains both that wait, in the order in which they were sent
     check(
@@ -481,7 +582,7 @@ fn names_faulty_lines_and_words(rt: HostRuntime) -> Result<(), Fail> {
         3,
         &[
             "{'do':'doc','doc':'a','project':'p','text':'ab'}",
-            "{'as':'w','do':'leave'}",
+            "{'as':'w','do':'flush','doc':'a'}",
         ],
         &["fault: line 2 unbuilt"],
     )?;

@@ -1,10 +1,8 @@
 -- What an edit of a client is, and why it is refused.
-use Rattle.std.specs.Prelude.{◌≡◌, ℕ, ◌+◌, ◌<◌, nat_lt, ◌||◌, Bool, true, false, not, List, [], length, take, drop, Option, Some, None, if◌then◌else◌, ◌≢◌, ⊤}
+use Rattle.std.specs.Prelude.{◌≡◌, ℕ, ◌+◌, ◌<◌, nat_lt, ◌||◌, not, List, [], length, take, drop, Option, Some, None, if◌then◌else◌, ◌≢◌, ⊤}
 use Rattle.ot_op.specs.declared.comp.Comp.{Comp}
 use Rattle.ot_op.specs.declared.comp.Comp.TheVariants as comp
 use Rattle.ot_op.specs.Compose.{appended}
-use Rattle.journal_rules.specs.declared.state.ClientState.{ClientState}
-use Rattle.journal_rules.specs.declared.state.ClientState.TheVariants.{Joined}
 use Rattle.journal_rules.specs.Client.{Client}
 use Rattle.turn_rules.specs.Clients.{is_joined}
 use Rattle.journal_rules.specs.Legal.{units}

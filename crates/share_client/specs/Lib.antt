@@ -1,3 +1,4 @@
 pub mod Shifts
 pub mod Edits
 pub mod Clients
+pub mod Returning

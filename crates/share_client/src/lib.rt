@@ -5,11 +5,13 @@
 mod client;
 mod edit;
 mod message;
+mod returning;
 mod send;
 mod shift;
 
 pub use client::ShareClient;
 pub use edit::{Edit, EditFault};
+pub use returning::Missed;
 pub use send::{Outgoing, SendFault};
 
 #[cfg(test)]

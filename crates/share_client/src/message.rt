@@ -73,7 +73,7 @@ impl ShareClient {
         }
     }
 
-    fn is_alive(&self) -> bool
+    pub(crate) fn is_alive(&self) -> bool
         ensures { result ≡ rules.is_alive self.now.now.state }
     {
         matches!(self.state, ClientState::Joined | ClientState::Left)
@@ -132,7 +132,7 @@ impl ShareClient {
         self.flight.is_some() && self.sources.as_slice().contains(&source)
     }
 
-    fn on_op(&mut self, v: u64, op: &Op, source: u64) -> Result<(), AllocError>
+    pub(crate) fn on_op(&mut self, v: u64, op: &Op, source: u64) -> Result<(), AllocError>
         requires alive { rules.is_alive self.old.now.state ≡ true }
         requires own { IsAtEase self.old.now }
         requires op { IsSized op.now }

@@ -3,4 +3,4 @@ use Rattle.ot_json.proofs.Solid.{kept_solid}
 use Rattle.ot_json.proofs.read.read_elements.Goals as goal
 
 pub push-requires : goal.push-requires
-push-requires c = kept_solid _ _ _ (sym c.in_ok-comp.ensures ∙ c.in-Kept.is)
+push-requires g c = kept_solid _ _ _ (sym c.in_ok-comp.ensures ∙ c.in-Kept.is)

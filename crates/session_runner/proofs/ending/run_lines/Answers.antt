@@ -1,6 +1,8 @@
 use Rattle.std.proofs.Common.{◌∙◌, [], ◌∷◌, ◌++◌, None, subst, arith}
 use Rattle.journal_entries.specs.declared.act.Act.TheVariants.{Closed}
 use Rattle.run_rules.specs.Ending.{EndsUnflushed}
+use Rattle.run_rules.specs.Follows.{FollowsUnflushed}
+use Rattle.run_rules.proofs.Completing.{unflushed_ended}
 use Rattle.turn_rules.specs.Turns.{entry_by}
 use Rattle.session_runner.proofs.Fitting.{ticks_low}
 use Rattle.session_runner.proofs.ending.run_lines.Goals as goal
@@ -15,8 +17,13 @@ pub returns : goal.returns
 returns c =
     let many = c.in_ok-book.ensures.many in
     let j = c.in_ok-book.field-0.book.journal in
+    let last = c.end_run.new.book.journal in
+    let follows : FollowsUnflushed c.args.lines.items c.args.sessions last =
+    record { done = j; leads = c.in_ok-book.ensures.leads; ends = subst (λ n. EndsUnflushed n (j ++ entry_by 0 None (Closed 0) ∷ []) last) many c.in_ok-end_run.ensures.ends } in
     record {
-      follows = record { done = j; leads = c.in_ok-book.ensures.leads; ends = subst (λ n. EndsUnflushed n (j ++ entry_by 0 None (Closed 0) ∷ []) c.end_run.new.book.journal) many c.in_ok-end_run.ensures.ends };
+      legal = c.legal.ensures;
+      follows = follows;
+      ended = unflushed_ended c.args.lines.items c.args.sessions last c.legal.ensures c.requires.numbered follows;
       clients = c.in_ok-end_run.ensures.clients;
       many = c.in_ok-end_run.ensures.sessions ∙ many;
     }

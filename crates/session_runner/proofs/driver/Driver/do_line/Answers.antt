@@ -75,28 +75,43 @@ returns-in-Join-clause-behind c =
 
 pub returns-in-Ins-clause-behind : goal.returns-in-Ins-clause-behind
 returns-in-Ins-clause-behind c =
-    let old = c.args.self.now.book.journal in let new = c.edit.new.self.book.journal in
-    on_ok c.edit.result (λ g. subst (λ (l : Line). IsBehind l old new) (sym c.in-Ins.is) (quiet_behind _ c.in-Ins.session old new (λ ms. refl) refl g)) c.edit.ensures.quiet
+    let old = c.args.self.now.book.journal in let new = c.tell.new.self.book.journal in
+    on_ok c.tell.result (λ g. subst (λ (l : Line). IsBehind l old new) (sym c.in-Ins.is) (quiet_behind _ c.in-Ins.session old new (λ ms. refl) refl g)) c.tell.ensures.quiet
 
 pub returns-in-Del-clause-behind : goal.returns-in-Del-clause-behind
 returns-in-Del-clause-behind c =
-    let old = c.args.self.now.book.journal in let new = c.edit-in-Del.new.self.book.journal in
-    on_ok c.edit-in-Del.result (λ g. subst (λ (l : Line). IsBehind l old new) (sym c.in-Del.is) (quiet_behind _ c.in-Del.session old new (λ ms. refl) refl g)) c.edit-in-Del.ensures.quiet
+    let old = c.args.self.now.book.journal in let new = c.tell-in-Del.new.self.book.journal in
+    on_ok c.tell-in-Del.result (λ g. subst (λ (l : Line). IsBehind l old new) (sym c.in-Del.is) (quiet_behind _ c.in-Del.session old new (λ ms. refl) refl g)) c.tell-in-Del.ensures.quiet
 
 pub returns-in-Com-clause-behind : goal.returns-in-Com-clause-behind
 returns-in-Com-clause-behind c =
-    let old = c.args.self.now.book.journal in let new = c.edit-in-Com.new.self.book.journal in
-    on_ok c.edit-in-Com.result (λ g. subst (λ (l : Line). IsBehind l old new) (sym c.in-Com.is) (quiet_behind _ c.in-Com.session old new (λ ms. refl) refl g)) c.edit-in-Com.ensures.quiet
+    let old = c.args.self.now.book.journal in let new = c.tell-in-Com.new.self.book.journal in
+    on_ok c.tell-in-Com.result (λ g. subst (λ (l : Line). IsBehind l old new) (sym c.in-Com.is) (quiet_behind _ c.in-Com.session old new (λ ms. refl) refl g)) c.tell-in-Com.ensures.quiet
 
 pub returns-in-Send-clause-behind : goal.returns-in-Send-clause-behind
 returns-in-Send-clause-behind c =
-    let old = c.args.self.now.book.journal in let new = c.send.new.self.book.journal in
-    on_ok c.send.result (λ g. subst (λ (l : Line). IsBehind l old new) (sym c.in-Send.is) (quiet_behind _ c.in-Send.session old new (λ ms. refl) refl g)) c.send.ensures.quiet
+    let old = c.args.self.now.book.journal in let new = c.tell-in-Send.new.self.book.journal in
+    on_ok c.tell-in-Send.result (λ g. subst (λ (l : Line). IsBehind l old new) (sym c.in-Send.is) (quiet_behind _ c.in-Send.session old new (λ ms. refl) refl g)) c.tell-in-Send.ensures.quiet
+
+pub returns-in-Resend-clause-behind : goal.returns-in-Resend-clause-behind
+returns-in-Resend-clause-behind c =
+    let old = c.args.self.now.book.journal in let new = c.tell-in-Resend.new.self.book.journal in
+    on_ok c.tell-in-Resend.result (λ g. subst (λ (l : Line). IsBehind l old new) (sym c.in-Resend.is) (quiet_behind _ c.in-Resend.session old new (λ ms. refl) refl g)) c.tell-in-Resend.ensures.quiet
 
 pub returns-in-Recv-clause-behind : goal.returns-in-Recv-clause-behind
 returns-in-Recv-clause-behind c =
-    let old = c.args.self.now.book.journal in let new = c.receive.new.self.book.journal in
-    on_ok c.receive.result (λ g. subst (λ (l : Line). IsBehind l old new) (sym c.in-Recv.is) (quiet_behind _ c.in-Recv.session old new (λ ms. refl) refl g)) c.receive.ensures.quiet
+    let old = c.args.self.now.book.journal in let new = c.tell-in-Recv.new.self.book.journal in
+    on_ok c.tell-in-Recv.result (λ g. subst (λ (l : Line). IsBehind l old new) (sym c.in-Recv.is) (quiet_behind _ c.in-Recv.session old new (λ ms. refl) refl g)) c.tell-in-Recv.ensures.quiet
+
+pub returns-in-Leave-clause-behind : goal.returns-in-Leave-clause-behind
+returns-in-Leave-clause-behind c =
+    let old = c.args.self.now.book.journal in let new = c.tell-in-Leave.new.self.book.journal in
+    on_ok c.tell-in-Leave.result (λ g. subst (λ (l : Line). IsBehind l old new) (sym c.in-Leave.is) (quiet_behind _ c.in-Leave.session old new (λ ms. refl) refl g)) c.tell-in-Leave.ensures.quiet
+
+pub returns-in-Rejoin-clause-behind : goal.returns-in-Rejoin-clause-behind
+returns-in-Rejoin-clause-behind c =
+    let old = c.args.self.now.book.journal in let new = c.tell-in-Rejoin.new.self.book.journal in
+    on_ok c.tell-in-Rejoin.result (λ g. subst (λ (l : Line). IsBehind l old new) (sym c.in-Rejoin.is) (quiet_behind _ c.in-Rejoin.session old new (λ ms. refl) refl g)) c.tell-in-Rejoin.ensures.quiet
 
 pub returns-in-Sync-clause-behind : goal.returns-in-Sync-clause-behind
 returns-in-Sync-clause-behind c =

@@ -1,0 +1,9 @@
+pub mod Back
+pub mod Ends
+pub mod Fine
+pub mod FineLines
+pub mod LineBack
+pub mod Placed
+pub mod Reading
+pub mod Runs
+pub mod Whole

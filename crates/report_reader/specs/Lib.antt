@@ -1,0 +1,15 @@
+pub mod Acts
+pub mod Boards
+pub mod Clients
+pub mod Details
+pub mod Documents
+pub mod Drafts
+pub mod Entries
+pub mod Fields
+pub mod Kinds
+pub mod Laws
+pub mod Pieces
+pub mod Projects
+pub mod Refused
+pub mod Reports
+pub mod Typed
