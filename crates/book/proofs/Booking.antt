@@ -9,7 +9,7 @@ use Rattle.expiring_lock.specs.Locks.{LockState}
 use Rattle.journal_entries.specs.Journals.{Journaled, entries, spare}
 use Rattle.journal_entries.specs.declared.update.Update.{Update}
 use Rattle.journal_entries.specs.declared.act.Act.{Act}
-use Rattle.journal_entries.specs.declared.act.Act.TheVariants.{Made, Ticked, Joined as JoinedAct, Edited, Sent, Malformed, Got, Left as LeftAct, Declined, Closed}
+use Rattle.journal_entries.specs.declared.act.Act.TheVariants.{Made, Ticked, Joined as JoinedAct, Edited, Sent, Malformed, Got, Left as LeftAct, FlushFailed, Declined, Closed}
 use Rattle.journal_entries.specs.declared.act.Entry.{Entry}
 use Rattle.journal_rules.specs.Documents.{Making, is_named, making_of, makings, number_in, number_of, is_in, waiting}
 use Rattle.journal_rules.specs.Locks.{acquiring_of, acquirings, clock, ticked}
@@ -64,6 +64,7 @@ same_book before after documents documents' now tokens owed drivers was called s
 abbrev pub IsQuiet : Act → Type 0
 IsQuiet (Ticked ms) = ⊤
 IsQuiet (Malformed doc fault) = ⊤
+IsQuiet (FlushFailed doc token from to) = ⊤
 IsQuiet (Declined session why) = ⊤
 IsQuiet (Closed driver) = ⊤
 IsQuiet (JoinedAct client doc user track since source v) = ⊤
@@ -80,6 +81,7 @@ record QuietFacts (seat : ℕ) (a : Act) : Type 0 where
 quiet_facts : (seat : ℕ) (a : Act) → IsQuiet a → QuietFacts seat a
 quiet_facts seat (Ticked ms) q = record { passes = λ d. tt; makes = refl; takes = refl }
 quiet_facts seat (Malformed doc fault) q = record { passes = λ d. tt; makes = refl; takes = refl }
+quiet_facts seat (FlushFailed doc token from to) q = record { passes = λ d. tt; makes = refl; takes = refl }
 quiet_facts seat (Declined session why) q = record { passes = λ d. tt; makes = refl; takes = refl }
 quiet_facts seat (Closed driver) q = record { passes = λ d. tt; makes = refl; takes = refl }
 quiet_facts seat (JoinedAct client doc user track since source v) q = record { passes = λ d. tt; makes = refl; takes = refl }

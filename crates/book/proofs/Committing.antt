@@ -51,7 +51,7 @@ committed_book before after documents documents' now tokens owed drivers seat lo
       ends = inl (record { update = look.update; named = named look j legal of stands; outcome_is = still_decided look j legal of stands t.was decision x by; cached_is = x.cached_is });
     } in
     settled_book before after documents documents' now tokens owed drivers look.doc look.token look.ticket look.seat outcome look.update _ e was called more less (seat_is ∙ own) is may f (named look j legal of stands)
-    t (becomes t.was look.update look (still look j legal of stands t.was x) decision t.now by.applies t.is.takes) t.is.lock_is t.is.ticket t.is.waiting_is
+    t (becomes t.was look.update look (still look j legal of stands t.was x) decision t.now by.applies t.is.takes) t.is.lock_is t.is.kept_is t.is.ticket t.is.waiting_is
 
 -- the version of a document has room to grow
 pub version_fits : (j : List Entry) (documents : List Document) (x : Document) (d : ℕ) → AreDocuments documents j → slice_get documents d ≡ Some x → length j < 2 ^ 63 → x.window.version < 2 ^ 64 - 1

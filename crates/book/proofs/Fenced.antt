@@ -63,6 +63,15 @@ under d token j none = by (last_acquiring d j) refl none
         let t = tells (eqb a.token token) (not (is_in a.token (released j))) (Other a.token) (sym (ap (λ o. tested o (released j) token) is) ∙ e) in
         record { acquiring = a; held = record { last = is; standing = flipped (is_in a.token (released j)) t.1 }; token_is = eqb-true a.token token t.0 }
 
+-- while a token stands, the document's last acquiring is the one that gave it
+pub last_stays : (doc token : ℕ) (early more j : List Entry) (a : Acquiring) → j ≡ early ++ more → IsLegal j → last_acquiring doc early ≡ Some a → a.token ≡ token → (u : IsUnder doc token j) → a ≡ u.acquiring
+last_stays doc token early more j a is legal last same u =
+    let on = subst IsLegal is legal in
+    known_same a u.acquiring (early ++ more)
+    (known_more a more early (last_known doc early (legal_front early more on) a last))
+    (last_known doc (early ++ more) on u.acquiring (sym (ap (last_acquiring doc) is) ∙ u.held.last))
+    (same ∙ sym u.token_is)
+
 -- what was looked at is a look of the journal at once
 pub begins : (look : Snapshot) (j : List Entry) → IsLookAt j look → IsOf look j
 begins look j looks = record { early = j; more = []; journal_is = sym (append-nil j); looks = looks; unused = all_none (λ (e : Entry). is_in look.token (used_by e.act) ≡ false) }
@@ -104,15 +113,8 @@ module _ (look : Snapshot) (j : List Entry) (legal : IsLegal j) (since : IsSince
   now : IsUnder look.doc look.token j
   now = under look.doc look.token j stands
 
-  legal_on : IsLegal (since.early ++ since.more)
-  legal_on = subst IsLegal since.journal_is legal
-
   same_acquiring : since.looks.acquiring ≡ now.acquiring
-  same_acquiring =
-      known_same since.looks.acquiring now.acquiring (since.early ++ since.more)
-      (known_more since.looks.acquiring since.more since.early (last_known look.doc since.early (legal_front since.early since.more legal_on) since.looks.acquiring since.looks.last))
-      (last_known look.doc (since.early ++ since.more) legal_on now.acquiring (sym (ap (last_acquiring look.doc) since.journal_is) ∙ now.held.last))
-      (since.looks.token_is ∙ sym now.token_is)
+  same_acquiring = last_stays look.doc look.token since.early since.more j since.looks.acquiring since.journal_is legal since.looks.last since.looks.token_is now
 
   pub last_is : last_acquiring look.doc j ≡ Some since.looks.acquiring
   last_is = now.held.last ∙ ap (λ (x : Acquiring). Some x) (sym same_acquiring)

@@ -41,6 +41,7 @@ queued_kept {xs} {ys} {zs} doc ticket s t =
           ranges_are = t.is.same.ranges_are ∙ ap (λ (x : Document). x.ranges) mid ∙ s.is.same.ranges_are;
           window_is = t.is.same.window_is ∙ ap (λ (x : Document). x.window) mid ∙ s.is.same.window_is;
         };
+        kept_is = t.is.kept_is ∙ ap (λ (x : Document). x.kept) mid ∙ s.is.kept_is;
         lock_is = t.is.lock_is ∙ ap (λ (x : Document). x.lock) mid ∙ s.is.lock_is;
         waiting_is = t.is.waiting_is ∙ ap (λ (x : Document). x.waiting.items ++ ticket ∷ []) mid ∙ ap (λ l. l ++ ticket ∷ []) s.is.waiting_is;
       };

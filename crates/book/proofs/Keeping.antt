@@ -7,20 +7,20 @@ use Rattle.std.proofs.lemmas.Bool.Decides.{eqb_tells}
 use Rattle.journal_entries.specs.declared.update.Update.{Update}
 use Rattle.journal_entries.specs.declared.update.Outcome.{Outcome}
 use Rattle.journal_entries.specs.declared.act.Act.{Act}
-use Rattle.journal_entries.specs.declared.act.Act.TheVariants.{Made, Ticked, Joined as JoinedAct, Edited, Sent, Malformed, Got, Left as LeftAct, Acquired, Committed, Released, Declined, Closed}
+use Rattle.journal_entries.specs.declared.act.Act.TheVariants.{Made, Ticked, Joined as JoinedAct, Edited, Sent, Malformed, Got, Left as LeftAct, Acquired, Committed, Released, Flushed, FlushFailed, Declined, Closed}
 use Rattle.journal_entries.specs.declared.act.Entry.{Entry}
 use Rattle.journal_rules.specs.Documents.{IsMade, Making, making_of, makings, item_of, items_by, applied_list, sends, ticket_of, waiting, update_at}
-use Rattle.journal_rules.specs.Keeping.{cached_by, cached}
+use Rattle.journal_rules.specs.Keeping.{cached_by, cached, kept_by, kept}
 use Rattle.journal_rules.specs.Locks.{Acquiring, acquired_by, last_acquiring, next_token, released_by, released}
 use Rattle.journal_rules.specs.Legal.{IsAllowed, IsLegal}
-use Rattle.journal_rules.proofs.Pushing.{makings-push, makings-none, applied_list-push, cached-push}
-use Rattle.journal_rules.proofs.Legality.{seam, last_or, legal_push}
+use Rattle.journal_rules.proofs.Pushing.{makings-push, makings-none, applied_list-push, cached-push, kept-push, kept-none}
+use Rattle.journal_rules.proofs.Legality.{Keeps, by_last, seam, last_or, legal_push}
 use Rattle.journal_rules.proofs.Fencing.{acquired_made}
 use Rattle.journal_laws.proofs.Unmade.{unmade_waits, unmade_applied}
 use Rattle.journal_rules.proofs.Waits.{one_if, committed_below, waiting-more, waiting-committed, waiting-committed_other}
 use Rattle.book.specs.declared.document.Document.{Document}
 use Rattle.book.specs.Deciding.{Becomes}
-use Rattle.book.specs.Standing.{AreDocuments, IsDocument, IsNew, IsQueued, IsKeptAs, IsLocked, IsFreed, Turns, lock_in, lock_of}
+use Rattle.book.specs.Standing.{AreDocuments, IsDocument, IsNew, IsQueued, IsKeptAs, IsLocked, IsFreed, IsKeptAt, Turns, lock_in, lock_of}
 use Rattle.book.proofs.Lists.{set_elsewhere, set_here}
 use Rattle.book.proofs.Standing.{same_self, moved, made_new, applied_document}
 use Rattle.book.proofs.Tokens.{lock_still, lock_push, lock_acquired, lock_released, lock_elsewhere}
@@ -34,6 +34,8 @@ Passes d (Malformed doc fault) = ⊤
 Passes d (Acquired doc token until) = doc ≢ d
 Passes d (Committed doc token ticket outcome) = doc ≢ d
 Passes d (Released doc token) = doc ≢ d
+Passes d (Flushed doc token v) = doc ≢ d
+Passes d (FlushFailed doc token from to) = ⊤
 Passes d (Declined session why) = ⊤
 Passes d (JoinedAct client doc user track since source v) = ⊤
 Passes d (Edited client comp) = ⊤
@@ -52,6 +54,7 @@ record Facts (d : ℕ) (j : List Entry) (seat : ℕ) (a : Act) : Type 0 where
   items : items_by d j a ≡ []
   locks : lock_in (acquired_by d seat a (last_acquiring d j)) (released j ++ released_by a) ≡ lock_of d j
   caches : cached_by d a (cached d j) ≡ cached d j
+  keeps : kept_by d a (kept d j) ≡ kept d j
 
 none_made : (d : ℕ) (j : List Entry) → slice_get (makings j ++ []) d ≡ slice_get (makings j) d
 none_made d j = ap (λ l. slice_get l d) (append-nil (makings j))
@@ -62,34 +65,46 @@ facts d j seat (Made doc name project first base) legal may apart made = record 
   items = refl;
   locks = lock_still d j seat (Made doc name project first base) refl refl;
   caches = ap (λ b. if b then true else cached d j) (ne_eqb doc d apart);
+  keeps = refl;
 }
-facts d j seat (Ticked ms) legal may apart made = record { makes = none_made d j; items = refl; locks = lock_still d j seat (Ticked ms) refl refl; caches = refl }
-facts d j seat (Sent u) legal may apart made = record { makes = none_made d j; items = refl; locks = lock_still d j seat (Sent u) refl refl; caches = refl }
-facts d j seat (Malformed doc fault) legal may apart made = record { makes = none_made d j; items = refl; locks = lock_still d j seat (Malformed doc fault) refl refl; caches = refl }
+facts d j seat (Ticked ms) legal may apart made = record { makes = none_made d j; items = refl; locks = lock_still d j seat (Ticked ms) refl refl; caches = refl; keeps = refl }
+facts d j seat (Sent u) legal may apart made = record { makes = none_made d j; items = refl; locks = lock_still d j seat (Sent u) refl refl; caches = refl; keeps = refl }
+facts d j seat (Malformed doc fault) legal may apart made = record { makes = none_made d j; items = refl; locks = lock_still d j seat (Malformed doc fault) refl refl; caches = refl; keeps = refl }
 facts d j seat (Acquired doc token until) legal may apart made = record {
   makes = none_made d j;
   items = refl;
   locks = lock_still d j seat (Acquired doc token until) (ap (λ b. if b then Some (record { seat = seat; doc = doc; token = token; until = until }) else last_acquiring d j) (ne_eqb doc d apart)) refl;
   caches = refl;
+  keeps = refl;
 }
 facts d j seat (Committed doc token ticket outcome) legal may apart made = record {
   makes = none_made d j;
   items = ap (λ b. if b then item_of ticket (update_at j ticket) outcome else []) (ne_eqb doc d apart);
   locks = lock_still d j seat (Committed doc token ticket outcome) refl refl;
   caches = refl;
+  keeps = refl;
 }
 facts d j seat (Released doc token) legal may apart made = record {
   makes = none_made d j;
   items = refl;
   locks = lock_elsewhere d doc token may.acquiring j legal may.held.last may.token_is apart;
   caches = refl;
+  keeps = refl;
 }
-facts d j seat (Declined session why) legal may apart made = record { makes = none_made d j; items = refl; locks = lock_still d j seat (Declined session why) refl refl; caches = refl }
-facts d j seat (Closed driver) legal may apart made = record { makes = none_made d j; items = refl; locks = lock_still d j seat (Closed driver) refl refl; caches = refl }
-facts d j seat (JoinedAct client doc user track since source v) legal may apart made = record { makes = none_made d j; items = refl; locks = lock_still d j seat (JoinedAct client doc user track since source v) refl refl; caches = refl }
-facts d j seat (Edited client comp) legal may apart made = record { makes = none_made d j; items = refl; locks = lock_still d j seat (Edited client comp) refl refl; caches = refl }
-facts d j seat (Got client brief) legal may apart made = record { makes = none_made d j; items = refl; locks = lock_still d j seat (Got client brief) refl refl; caches = refl }
-facts d j seat (LeftAct client) legal may apart made = record { makes = none_made d j; items = refl; locks = lock_still d j seat (LeftAct client) refl refl; caches = refl }
+facts d j seat (Flushed doc token v) legal may apart made = record {
+  makes = none_made d j;
+  items = refl;
+  locks = lock_still d j seat (Flushed doc token v) refl refl;
+  caches = refl;
+  keeps = ap (λ b. if b then Some v else kept d j) (ne_eqb doc d apart);
+}
+facts d j seat (FlushFailed doc token from to) legal may apart made = record { makes = none_made d j; items = refl; locks = lock_still d j seat (FlushFailed doc token from to) refl refl; caches = refl; keeps = refl }
+facts d j seat (Declined session why) legal may apart made = record { makes = none_made d j; items = refl; locks = lock_still d j seat (Declined session why) refl refl; caches = refl; keeps = refl }
+facts d j seat (Closed driver) legal may apart made = record { makes = none_made d j; items = refl; locks = lock_still d j seat (Closed driver) refl refl; caches = refl; keeps = refl }
+facts d j seat (JoinedAct client doc user track since source v) legal may apart made = record { makes = none_made d j; items = refl; locks = lock_still d j seat (JoinedAct client doc user track since source v) refl refl; caches = refl; keeps = refl }
+facts d j seat (Edited client comp) legal may apart made = record { makes = none_made d j; items = refl; locks = lock_still d j seat (Edited client comp) refl refl; caches = refl; keeps = refl }
+facts d j seat (Got client brief) legal may apart made = record { makes = none_made d j; items = refl; locks = lock_still d j seat (Got client brief) refl refl; caches = refl; keeps = refl }
+facts d j seat (LeftAct client) legal may apart made = record { makes = none_made d j; items = refl; locks = lock_still d j seat (LeftAct client) refl refl; caches = refl; keeps = refl }
 facts d j seat _ legal may apart made = absurd apart
 
 -- what waits after an entry that commits nothing
@@ -104,6 +119,8 @@ waits_on d j e (Ticked ms) is legal may apart = waits_none d j e legal (ap ticke
 waits_on d j e (Malformed doc fault) is legal may apart = waits_none d j e legal (ap ticket_of is) (ap (sends d) is)
 waits_on d j e (Acquired doc token until) is legal may apart = waits_none d j e legal (ap ticket_of is) (ap (sends d) is)
 waits_on d j e (Released doc token) is legal may apart = waits_none d j e legal (ap ticket_of is) (ap (sends d) is)
+waits_on d j e (Flushed doc token v) is legal may apart = waits_none d j e legal (ap ticket_of is) (ap (sends d) is)
+waits_on d j e (FlushFailed doc token from to) is legal may apart = waits_none d j e legal (ap ticket_of is) (ap (sends d) is)
 waits_on d j e (Declined session why) is legal may apart = waits_none d j e legal (ap ticket_of is) (ap (sends d) is)
 waits_on d j e (Closed driver) is legal may apart = waits_none d j e legal (ap ticket_of is) (ap (sends d) is)
 waits_on d j e (JoinedAct client doc user track since source v) is legal may apart = waits_none d j e legal (ap ticket_of is) (ap (sends d) is)
@@ -122,6 +139,7 @@ passed d x j e legal may apart made was =
     (same_self x)
     (was.waiting_is ∙ sym (waits_on d j e e.act refl legal may apart))
     (was.lock_is ∙ sym (lock_push d j e ∙ f.locks))
+    (was.kept_is ∙ sym (kept-push d j e ∙ f.keeps))
     (cached-push d j e ∙ f.caches ∙ was.cached_is) was
 
 -- ---- all documents
@@ -170,7 +188,7 @@ kept_same documents documents' doc j t were = subst (λ (l : List Document). Are
     by d x at (inl s) =
         let is : x ≡ t.now = set_here documents doc t.now x (subst (λ (n : ℕ). slice_get (slice_set documents doc t.now) n ≡ Some x) (sym s.1) at) in
         subst (λ (n : ℕ). IsDocument n x j) s.1 (subst (λ (y : Document). IsDocument doc y j) (sym is)
-        (moved doc t.was t.now j j refl refl t.is.same (t.is.waiting_is ∙ was.waiting_is) (t.is.lock_is ∙ was.lock_is) was.cached_is was))
+        (moved doc t.was t.now j j refl refl t.is.same (t.is.waiting_is ∙ was.waiting_is) (t.is.lock_is ∙ was.lock_is) (t.is.kept_is ∙ was.kept_is) was.cached_is was))
     by d x at (inr s) = were.each d x (set_elsewhere documents doc d t.now x (λ h. s.1 (sym h)) at)
 
 -- ---- a document that an entry speaks of
@@ -184,12 +202,16 @@ module _ (doc : ℕ) (was now : Document) (j : List Entry) (e : Entry) (legal : 
   still_cached : cached_by doc e.act (cached doc j) ≡ cached doc j → cached doc (j ++ e ∷ []) ≡ true
   still_cached same = cached-push doc j e ∙ same ∙ before.cached_is
 
+  still_kept : now.kept ≡ was.kept → kept_by doc e.act (kept doc j) ≡ kept doc j → now.kept ≡ kept doc (j ++ e ∷ [])
+  still_kept same none = same ∙ before.kept_is ∙ sym (kept-push doc j e ∙ none)
+
   pub here_sent : (u : Update) → e.act ≡ Sent u → u.doc ≡ doc → IsQueued (length j) was now → IsDocument doc now (j ++ e ∷ [])
   here_sent u is own queued =
       moved doc was now j (j ++ e ∷ []) (no_making_more (ap making_of is)) (no_item_more (ap (items_by doc j) is)) queued.same
       (queued.waiting_is ∙ ap (λ l. l ++ length j ∷ []) before.waiting_is
       ∙ sym (waiting-more doc j e (committed_below j legal) (ap ticket_of is) ∙ ap (λ b. waiting doc j ++ one_if b (length j)) (ap (sends doc) is ∙ eq-eqb u.doc doc own)))
       (queued.lock_is ∙ before.lock_is ∙ sym (lock_push doc j e ∙ ap (λ a. lock_in (acquired_by doc e.seat a (last_acquiring doc j)) (released j ++ released_by a)) is ∙ ap (λ l. lock_in (last_acquiring doc j) l) (append-nil (released j))))
+      (still_kept queued.kept_is (ap (λ a. kept_by doc a (kept doc j)) is))
       (still_cached (ap (λ a. cached_by doc a (cached doc j)) is)) before
 
   pub here_acquired : (token until : ℕ) → e.act ≡ Acquired doc token until → token ≡ next_token j → IsLocked (record { last = token; until = until; seat = e.seat; held = true }) was now → IsDocument doc now (j ++ e ∷ [])
@@ -197,6 +219,7 @@ module _ (doc : ℕ) (was now : Document) (j : List Entry) (e : Entry) (legal : 
       moved doc was now j (j ++ e ∷ []) (no_making_more (ap making_of is)) (no_item_more (ap (items_by doc j) is)) locked.same
       (locked.waiting_is ∙ before.waiting_is ∙ sym (waits_none doc j e legal (ap ticket_of is) (ap (sends doc) is)))
       (locked.lock_is ∙ sym (lock_acquired doc token until j e legal is next))
+      (still_kept locked.kept_is (ap (λ a. kept_by doc a (kept doc j)) is))
       (still_cached (ap (λ a. cached_by doc a (cached doc j)) is)) before
 
   pub here_released : (token : ℕ) (a : Acquiring) → e.act ≡ Released doc token → last_acquiring doc j ≡ Some a → a.token ≡ token → IsFreed was now → IsDocument doc now (j ++ e ∷ [])
@@ -204,18 +227,28 @@ module _ (doc : ℕ) (was now : Document) (j : List Entry) (e : Entry) (legal : 
       moved doc was now j (j ++ e ∷ []) (no_making_more (ap making_of is)) (no_item_more (ap (items_by doc j) is)) freed.same
       (freed.waiting_is ∙ before.waiting_is ∙ sym (waits_none doc j e legal (ap ticket_of is) (ap (sends doc) is)))
       (freed.lock_is ∙ ap (λ l. record { last = l.last; until = l.until; seat = l.seat; held = false }) before.lock_is ∙ sym (lock_released doc token a j e is last same))
+      (still_kept freed.kept_is (ap (λ a. kept_by doc a (kept doc j)) is))
       (still_cached (ap (λ a. cached_by doc a (cached doc j)) is)) before
 
   pub here_committed : (token ticket : ℕ) (outcome : Outcome) (u : Update) (rest : List ℕ) → e.act ≡ Committed doc token ticket outcome → waiting doc j ≡ ticket ∷ rest → update_at j ticket ≡ Some u
-      → Becomes was u now outcome → now.lock ≡ was.lock → now.waiting.items ≡ rest → IsDocument doc now (j ++ e ∷ [])
-  here_committed token ticket outcome u rest is first named becomes locks waits =
+      → Becomes was u now outcome → now.lock ≡ was.lock → now.kept ≡ was.kept → now.waiting.items ≡ rest → IsDocument doc now (j ++ e ∷ [])
+  here_committed token ticket outcome u rest is first named becomes locks keeps waits =
       applied_document doc was now j (j ++ e ∷ []) ticket u outcome (no_making_more (ap making_of is))
       (applied_list-push doc j e ∙ ap (λ a. applied_list doc j ++ items_by doc j a) is
       ∙ ap (λ b. applied_list doc j ++ (if b then item_of ticket (update_at j ticket) outcome else [])) (eq-eqb doc doc refl)
       ∙ ap (λ o. applied_list doc j ++ item_of ticket o outcome) named)
       (waits ∙ sym (waiting-committed doc j e ticket rest (ap (sends doc) is) (ap ticket_of is) first))
       (locks ∙ before.lock_is ∙ sym (lock_push doc j e ∙ ap (λ a. lock_in (acquired_by doc e.seat a (last_acquiring doc j)) (released j ++ released_by a)) is ∙ ap (λ l. lock_in (last_acquiring doc j) l) (append-nil (released j))))
+      (still_kept keeps (ap (λ a. kept_by doc a (kept doc j)) is))
       (still_cached (ap (λ a. cached_by doc a (cached doc j)) is)) becomes before
+
+  pub here_flushed : (token v : ℕ) → e.act ≡ Flushed doc token v → IsKeptAt v was now → IsDocument doc now (j ++ e ∷ [])
+  here_flushed token v is at =
+      moved doc was now j (j ++ e ∷ []) (no_making_more (ap making_of is)) (no_item_more (ap (items_by doc j) is)) at.same
+      (at.waiting_is ∙ before.waiting_is ∙ sym (waits_none doc j e legal (ap ticket_of is) (ap (sends doc) is)))
+      (at.lock_is ∙ before.lock_is ∙ sym (lock_push doc j e ∙ ap (λ a. lock_in (acquired_by doc e.seat a (last_acquiring doc j)) (released j ++ released_by a)) is ∙ ap (λ l. lock_in (last_acquiring doc j) l) (append-nil (released j))))
+      (at.kept_is ∙ sym (kept-push doc j e ∙ ap (λ a. kept_by doc a (kept doc j)) is ∙ ap (λ b. if b then Some v else kept doc j) (eq-eqb doc doc refl)))
+      (still_cached (ap (λ a. cached_by doc a (cached doc j)) is)) before
 
 -- ---- a new document
 never_acquired : (d : ℕ) (j : List Entry) → IsLegal j → length (makings j) ≤ d → last_acquiring d j ≡ None
@@ -227,6 +260,29 @@ never_acquired d j legal high = by (last_acquiring d j) refl
 
 pub unmade_lock : (d : ℕ) (j : List Entry) → IsLegal j → length (makings j) ≤ d → lock_of d j ≡ record { last = 0; until = 0; seat = 0; held = false }
 unmade_lock d j legal high = ap (λ o. lock_in o (released j)) (never_acquired d j legal high)
+
+-- a document that wasn't made was never put into the keeper
+unmade_kept : (j : List Entry) → IsLegal j → (d : ℕ) → length (makings j) ≤ d → kept d j ≡ None
+unmade_kept = by_last (λ j. (d : ℕ) → length (makings j) ≤ d → kept d j ≡ None) none more
+  where
+    none : (d : ℕ) → length (makings []) ≤ d → kept d [] ≡ None
+    none d high = kept-none d
+
+    one : (h : List Entry) (seat : ℕ) (a : Act) → IsLegal h → IsAllowed h seat a → (d : ℕ) → length (makings h) ≤ d → kept d h ≡ None → kept_by d a (kept d h) ≡ None
+    one h seat (Flushed doc token v) legal may d high was = by (eqb_tells doc d)
+      where
+        by : ((eqb doc d ≡ true) × (doc ≡ d)) ⊎ ((eqb doc d ≡ false) × (doc ≢ d)) → (if eqb doc d then Some v else kept d h) ≡ None
+        by (inl t) =
+            let made = acquired_made doc h legal may.holds.acquiring may.holds.held.last in
+            let same = t.1 in absurd (omega (arith, made, same, high))
+        by (inr t) = ap (λ b. if b then Some v else kept d h) t.0 ∙ was
+    one h seat _ legal may d high was = was
+
+    more : Keeps (λ j. (d : ℕ) → length (makings j) ≤ d → kept d j ≡ None)
+    more h e legal may was d high =
+        let n = ap length (makings-push h e) ∙ length-append (makings h) (making_of e.act) in
+        let low : length (makings h) ≤ d = omega (arith, n, high) in
+        kept-push d h e ∙ one h e.seat e.act legal may d low (was d low)
 
 pub kept_made : (documents : List Document) (new : Document) (j : List Entry) (e : Entry) (doc : ℕ) (name project first : List ℕ) (base : ℕ) → e.act ≡ Made doc name project first base → IsAllowed j e.seat (Made doc name project first base) → length documents < 1000 → IsNew new first base → AreDocuments documents j → AreDocuments (documents ++ new ∷ []) (j ++ e ∷ [])
 kept_made documents new j e doc name project first base is may few is_new were = record {
@@ -262,8 +318,9 @@ kept_made documents new j e doc name project first base is may few is_new were =
         let idle : waiting d (j ++ e ∷ []) ≡ [] = waits d ∙ unmade_waits d j were.legal high in
         let locks : lock_of d (j ++ e ∷ []) ≡ record { last = 0; until = 0; seat = 0; held = false } =
         lock_push d j e ∙ ap (λ a. lock_in (acquired_by d e.seat a (last_acquiring d j)) (released j ++ released_by a)) is ∙ ap (λ l. lock_in (last_acquiring d j) l) (append-nil (released j)) ∙ unmade_lock d j were.legal high in
+        let keeps : kept d (j ++ e ∷ []) ≡ None = kept-push d j e ∙ ap (λ a. kept_by d a (kept d j)) is ∙ unmade_kept j were.legal d high in
         let caches : cached d (j ++ e ∷ []) ≡ true = cached-push d j e ∙ ap (λ a. cached_by d a (cached d j)) is ∙ ap (λ b. if b then true else cached d j) (eq-eqb doc d (may.next ∙ sym at)) in
-        subst (λ (x : Document). IsDocument d x (j ++ e ∷ [])) (sym t.1) (made_new d new (j ++ e ∷ []) m here none idle locks caches may.short is_new)
+        subst (λ (x : Document). IsDocument d x (j ++ e ∷ [])) (sym t.1) (made_new d new (j ++ e ∷ []) m here none idle locks keeps caches may.short is_new)
 
 -- no documents
 pub kept_none : AreDocuments [] []

@@ -7,8 +7,10 @@ pub mod Settling
 pub mod Owed
 pub mod Tokens
 pub mod Acquirings
+pub mod Taken
 pub mod Holders
 pub mod Keeping
+pub mod Stored
 pub mod Roomed
 pub mod Serving
 pub mod Sending
@@ -17,3 +19,4 @@ pub mod Booking
 pub mod Locking
 pub mod Fenced
 pub mod Committing
+pub mod Putting

@@ -200,12 +200,12 @@ rest_of (x ∷ xs) = xs
 pub settled_book : {R : Document → Document → Type 0} {names names' : List (List ℕ)} (before after : Journaled) (documents documents' : List Document) (now tokens owed drivers doc token ticket seat : ℕ) (outcome : Outcome) (u : Update) (rest : List ℕ) (e : Entry)
     → IsBook before names documents now tokens owed drivers → names' ≡ names → entries after ≡ entries before ++ e ∷ [] → spare after + 1 ≡ spare before
     → e.seat ≡ seat → e.act ≡ Committed doc token ticket outcome → IsAllowed (entries before) seat (Committed doc token ticket outcome) → waiting doc (entries before) ≡ ticket ∷ rest → update_at (entries before) ticket ≡ Some u
-    → (t : Turns doc R documents documents') → Becomes t.was u t.now outcome → t.now.lock ≡ t.was.lock → (first : ℕ) → t.was.waiting.items ≡ first ∷ t.now.waiting.items → IsBook after names' documents' now tokens (owed - 1) drivers
-settled_book {R} {names} {names'} before after documents documents' now tokens owed drivers doc token ticket seat outcome u rest e was called more less seat_is is may first named t becomes locks taken waits =
+    → (t : Turns doc R documents documents') → Becomes t.was u t.now outcome → t.now.lock ≡ t.was.lock → t.now.kept ≡ t.was.kept → (first : ℕ) → t.was.waiting.items ≡ first ∷ t.now.waiting.items → IsBook after names' documents' now tokens (owed - 1) drivers
+settled_book {R} {names} {names'} before after documents documents' now tokens owed drivers doc token ticket seat outcome u rest e was called more less seat_is is may first named t becomes locks keeps taken waits =
     let j = entries before in
     let x = was.stands.each doc t.was t.at in
     let left : t.now.waiting.items ≡ rest = ap rest_of (sym waits ∙ x.waiting_is ∙ first) in
-    let here = here_committed doc t.was t.now j e was.stands.legal x token ticket outcome u rest is first named becomes locks left in
+    let here = here_committed doc t.was t.now j e was.stands.legal x token ticket outcome u rest is first named becomes locks keeps left in
     let allowed : IsAllowed j e.seat e.act = subst (IsAllowed j e.seat) (sym is) (subst (λ n. IsAllowed j n (Committed doc token ticket outcome)) (sym seat_is) may) in
     let stands = kept_set documents doc t.was t.now j e t.at allowed (λ d apart. subst (Passes d) (sym is) apart) (ap making_of is) here was.stands in
     let none = ap (λ a. length (acquiring_of e.seat a)) is in
@@ -226,14 +226,14 @@ pub refused_book : {names names' : List (List ℕ)} (before after : Journaled) (
 refused_book {names} {names'} before after documents documents' now tokens owed drivers doc token ticket seat cause e was called more less seat_is is may t =
     let sent = waits_sent doc ticket (entries before) may.rest may.first in
     settled_book before after documents documents' now tokens owed drivers doc token ticket seat (Refused cause) sent.0 may.rest e was called more less seat_is is
-    (allowed_refusal (entries before) seat doc token ticket cause may) may.first sent.1 t t.is.same t.is.lock_is t.is.ticket t.is.waiting_is
+    (allowed_refusal (entries before) seat doc token ticket cause may) may.first sent.1 t t.is.same t.is.lock_is t.is.kept_is t.is.ticket t.is.waiting_is
 
 pub some_waits : (j : List Entry) (documents : List Document) (doc : ℕ) (x : Document) (ticket : ℕ) (rest : List ℕ) → AreDocuments documents j → slice_get documents doc ≡ Some x → waiting doc j ≡ ticket ∷ rest → 0 < length x.waiting.items
 some_waits j documents doc x ticket rest were at first = let l = ap length ((were.each doc x at).waiting_is ∙ first) in omega (arith, l)
 
 -- ---- why a document can't be acquired
 module _ (j : List Entry) (documents : List Document) (doc : ℕ) (x : Document) (were : AreDocuments documents j) (at : slice_get documents doc ≡ Some x) where
-  made : IsMade doc j
+  pub made : IsMade doc j
   made = let lt = slice_get_within documents doc x at in let c = were.count in omega (arith, lt, c)
 
   refusal : acquire_refused doc j ≡ refused_where x.waiting.items (busy doc j)

@@ -1,6 +1,6 @@
 -- One document of the desk as the journal has it.
 use Rattle.std.proofs.Common.{◌≡◌, ℕ, suc, ◌+◌, ◌-◌, ◌≤◌, List, [], ◌∷◌, ◌++◌, length, map, true, false, refl, sym, ap, ap₂, ◌∙◌, subst, arith, append-nil, length-append, All}
-use Rattle.std.specs.Prelude.{slice_get, Option, Some}
+use Rattle.std.specs.Prelude.{slice_get, Option, Some, None}
 use Rattle.std.proofs.lemmas.List.{map-append, length-map, length-drop}
 use Rattle.std.proofs.lemmas.List.Elements.{All-nil, All-push, All-drop}
 use Rattle.ot_op.specs.declared.comp.Comp.{Comp}
@@ -23,7 +23,7 @@ use Rattle.journal_rules.proofs.Replaying.{replays_on}
 use Rattle.book.specs.declared.document.Document.{Document}
 use Rattle.ranges_tracker.specs.Trackable.{IsTracked}
 use Rattle.book.specs.Deciding.{Becomes, IsPassable, IsSame, WasApplied}
-use Rattle.journal_rules.specs.Keeping.{cached}
+use Rattle.journal_rules.specs.Keeping.{cached, kept}
 use Rattle.book.specs.Standing.{lock_of, past_of, pasts, IsDecidable, IsDocument, IsNew, IsWindowOf}
 use Rattle.book.proofs.Reaching.{near_enough}
 use Rattle.ranges_tracker.proofs.Versions.{plain_tracked, steps_tracked}
@@ -45,8 +45,8 @@ window_moved d window j k ms items was = record {
 tracked_moved : (row row' : Row) (text text' : List ℕ) (ranges ranges' : List Change × List Comment) (v v' : ℕ) → row' ≡ row → text' ≡ text → ranges' ≡ ranges → v' ≡ v → IsTracked row text ranges v → IsTracked row' text' ranges' v'
 tracked_moved row row' text text' ranges ranges' v v' rows texts shows versions was = rw (rows, texts, shows, versions) was
 
-pub moved : (d : ℕ) (old new : Document) (j k : List Entry) → slice_get (makings k) d ≡ slice_get (makings j) d → applied_list d k ≡ applied_list d j → IsSame old new → new.waiting.items ≡ waiting d k → new.lock ≡ lock_of d k → cached d k ≡ true → IsDocument d old j → IsDocument d new k
-moved d old new j k ms items same waits locks caches was = record {
+pub moved : (d : ℕ) (old new : Document) (j k : List Entry) → slice_get (makings k) d ≡ slice_get (makings j) d → applied_list d k ≡ applied_list d j → IsSame old new → new.waiting.items ≡ waiting d k → new.lock ≡ lock_of d k → new.kept ≡ kept d k → cached d k ≡ true → IsDocument d old j → IsDocument d new k
+moved d old new j k ms items same waits locks keeps caches was = record {
   text_is = ap₂ (λ (o : Option Making) (l : List Item). replayed (first_in o) (map (λ x. x.op) l)) ms items ∙ was.text_is ∙ ap (λ t. Some t) (sym same.text_is);
   short = subst (λ (t : List ℕ). length t ≤ longest) (sym same.text_is) was.short;
   tracked = tracked_moved (cells d j) (cells d k) old.text new.text old.ranges new.ranges (version d j) (version d k)
@@ -55,12 +55,13 @@ moved d old new j k ms items same waits locks caches was = record {
   window_is = subst (λ (w : Recent). IsWindowOf d w k) (sym same.window_is) (window_moved d old.window j k ms items was.window_is);
   waiting_is = waits;
   lock_is = locks;
+  kept_is = keeps;
   cached_is = caches;
 }
 
 -- a document that was just made
-pub made_new : (d : ℕ) (new : Document) (j : List Entry) (m : Making) → slice_get (makings j) d ≡ Some m → applied_list d j ≡ [] → waiting d j ≡ [] → lock_of d j ≡ record { last = 0; until = 0; seat = 0; held = false } → cached d j ≡ true → length m.first ≤ longest → IsNew new m.first m.base → IsDocument d new j
-made_new d new j m ms items idle locks caches short is = record {
+pub made_new : (d : ℕ) (new : Document) (j : List Entry) (m : Making) → slice_get (makings j) d ≡ Some m → applied_list d j ≡ [] → waiting d j ≡ [] → lock_of d j ≡ record { last = 0; until = 0; seat = 0; held = false } → kept d j ≡ None → cached d j ≡ true → length m.first ≤ longest → IsNew new m.first m.base → IsDocument d new j
+made_new d new j m ms items idle locks keeps caches short is = record {
   text_is = ap₂ (λ (o : Option Making) (l : List Item). replayed (first_in o) (map (λ x. x.op) l)) ms items ∙ ap (λ t. Some t) (sym is.text_is);
   short = subst (λ (t : List ℕ). length t ≤ longest) (sym is.text_is) short;
   tracked = tracked_moved (plain_row m.first) (cells d j) m.first new.text ([], []) new.ranges (m.base + 0) (version d j)
@@ -75,6 +76,7 @@ made_new d new j m ms items idle locks caches short is = record {
   };
   waiting_is = is.waiting_is ∙ sym idle;
   lock_is = is.lock_is ∙ sym locks;
+  kept_is = is.kept_is ∙ sym keeps;
   cached_is = caches;
 }
 
@@ -86,8 +88,8 @@ numbered-push v (y ∷ ys) x =
     (numbered-push (v + 1) ys x ∙ ap (λ n. numbered (v + 1) ys ++ record { v = n; source = x.source; op = x.op } ∷ []) (let z : v + 1 + length ys ≡ v + suc (length ys) = omega arith in z))
 
 -- a document to which an operation was applied
-applied_on : (d : ℕ) (old new : Document) (j k : List Entry) (ticket v : ℕ) (u : Update) (op : List Comp) → slice_get (makings k) d ≡ slice_get (makings j) d → applied_list d k ≡ applied_list d j ++ item_of ticket (Some u) (Applied v op) → new.waiting.items ≡ waiting d k → new.lock ≡ lock_of d k → cached d k ≡ true → WasApplied old u v op new → IsDocument d old j → IsDocument d new k
-applied_on d old new j k ticket v u op ms items waits locks caches is was = record {
+applied_on : (d : ℕ) (old new : Document) (j k : List Entry) (ticket v : ℕ) (u : Update) (op : List Comp) → slice_get (makings k) d ≡ slice_get (makings j) d → applied_list d k ≡ applied_list d j ++ item_of ticket (Some u) (Applied v op) → new.waiting.items ≡ waiting d k → new.lock ≡ lock_of d k → new.kept ≡ kept d k → cached d k ≡ true → WasApplied old u v op new → IsDocument d old j → IsDocument d new k
+applied_on d old new j k ticket v u op ms items waits locks keeps caches is was = record {
   text_is = ap₂ (λ (o : Option Making) (l : List Item). replayed (first_in o) (map (λ x. x.op) l)) ms items ∙ replays_on (first_in (slice_get (makings j) d)) old.text new.text (applied_list d j) x was.text_is is.text_is;
   short = is.short;
   tracked = tracked_moved (steps (cells d j) op (stamp_of x) 0).row (cells d k) new.text new.text (shown (steps (cells d j) op (stamp_of x) 0).row) new.ranges (version d j + 1) (version d k) rows refl (sym shows) next_version
@@ -105,6 +107,7 @@ applied_on d old new j k ticket v u op ms items waits locks caches is was = reco
   };
   waiting_is = waits;
   lock_is = locks;
+  kept_is = keeps;
   cached_is = caches;
 }
   where
@@ -135,10 +138,10 @@ applied_on d old new j k ticket v u op ms items waits locks caches is was = reco
     shows : shown (steps (cells d j) op (stamp_of x) 0).row ≡ new.ranges
     shows = is.ranges_are (cells d j) (tracked_moved (cells d j) (cells d j) old.text old.text old.ranges old.ranges (version d j) v refl refl refl at was.tracked)
 
-pub applied_document : (d : ℕ) (old new : Document) (j k : List Entry) (ticket : ℕ) (u : Update) (outcome : Outcome) → slice_get (makings k) d ≡ slice_get (makings j) d → applied_list d k ≡ applied_list d j ++ item_of ticket (Some u) outcome → new.waiting.items ≡ waiting d k → new.lock ≡ lock_of d k → cached d k ≡ true → Becomes old u new outcome → IsDocument d old j → IsDocument d new k
-applied_document d old new j k ticket u (Applied v op) ms items waits locks caches is was = applied_on d old new j k ticket v u op ms items waits locks caches is was
-applied_document d old new j k ticket u (Dup v) ms items waits locks caches is was = moved d old new j k ms (items ∙ append-nil (applied_list d j)) is waits locks caches was
-applied_document d old new j k ticket u (Refused cause) ms items waits locks caches is was = moved d old new j k ms (items ∙ append-nil (applied_list d j)) is waits locks caches was
+pub applied_document : (d : ℕ) (old new : Document) (j k : List Entry) (ticket : ℕ) (u : Update) (outcome : Outcome) → slice_get (makings k) d ≡ slice_get (makings j) d → applied_list d k ≡ applied_list d j ++ item_of ticket (Some u) outcome → new.waiting.items ≡ waiting d k → new.lock ≡ lock_of d k → new.kept ≡ kept d k → cached d k ≡ true → Becomes old u new outcome → IsDocument d old j → IsDocument d new k
+applied_document d old new j k ticket u (Applied v op) ms items waits locks keeps caches is was = applied_on d old new j k ticket v u op ms items waits locks keeps caches is was
+applied_document d old new j k ticket u (Dup v) ms items waits locks keeps caches is was = moved d old new j k ms (items ∙ append-nil (applied_list d j)) is waits locks keeps caches was
+applied_document d old new j k ticket u (Refused cause) ms items waits locks keeps caches is was = moved d old new j k ms (items ∙ append-nil (applied_list d j)) is waits locks keeps caches was
 
 -- updates can be decided on by it
 pub is_decidable : (d : ℕ) (document : Document) (j : List Entry) → IsDocument d document j → IsDecidable document

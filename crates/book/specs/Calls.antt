@@ -1,5 +1,5 @@
 -- When the calls of a book refuse, and what they make.
-use Rattle.std.specs.Prelude.{◌≡◌, ◌≢◌, ℕ, ◌+◌, ◌<◌, ◌≤◌, ◌⊎◌, ◌==◌, true, false, nat_lt, List, [], ◌∷◌, length, Option, Some, None, Result, Ok, Err, option_map, if◌then◌else◌}
+use Rattle.std.specs.Prelude.{◌≡◌, ◌≢◌, ℕ, ◌+◌, ◌<◌, ◌≤◌, ◌⊎◌, ◌==◌, Bool, true, false, nat_lt, List, [], ◌∷◌, length, Option, Some, None, Result, Ok, Err, option_map, if◌then◌else◌}
 use Rattle.ot_op.specs.declared.comp.Comp.{Comp}
 use Rattle.ot_op.specs.declared.fault.FormFault.{FormFault}
 use Rattle.expiring_lock.specs.Locks.{LockState}
@@ -15,7 +15,7 @@ use Rattle.journal_entries.specs.declared.act.Entry.{Entry}
 use Rattle.journal_rules.specs.Client.{Client}
 use Rattle.journal_rules.specs.Deciding.{greatest_age}
 use Rattle.journal_rules.specs.Documents.{IsMade, is_in, makings, version, waiting}
-use Rattle.journal_rules.specs.Keeping.{FailedUnder, loading}
+use Rattle.journal_rules.specs.Keeping.{FailedUnder, cached, loading}
 use Rattle.journal_rules.specs.Locks.{Holds, clock, used}
 use Rattle.journal_rules.specs.Legal.{clock_end}
 use Rattle.journal_rules.specs.declared.state.ClientState.{ClientState}
@@ -104,6 +104,15 @@ refused_where (t ∷ ts) b = refused_of b
 -- why a document can't be acquired: the first that holds
 abbrev pub acquire_refused : ℕ → List Entry → Option AcquireFault
 acquire_refused doc journal = if nat_lt doc (length (makings journal)) then refused_where (waiting doc journal) (busy doc journal) else Some acquire.NoDoc
+
+-- ---- acquire_any
+abbrev pub unavailable_by : Option Busy → Bool → Option AcquireFault
+unavailable_by (Some b) is_cached = Some (acquire.Busy b)
+unavailable_by None is_cached = if is_cached then None else Some acquire.Uncached
+
+-- why a document can't be acquired to be flushed: the first that holds
+abbrev pub acquire_any_refused : ℕ → List Entry → Option AcquireFault
+acquire_any_refused doc journal = if nat_lt doc (length (makings journal)) then unavailable_by (busy doc journal) (cached doc journal) else Some acquire.NoDoc
 
 -- want of memory is told where nothing else is wrong
 abbrev pub told : AcquireFault → Option AcquireFault

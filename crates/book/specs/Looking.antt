@@ -44,6 +44,7 @@ TakesDecision old look (Refuse cause) new = IsSame old new
 -- a decision was taken up, and its update waits no more
 pub record IsSettled (look : Snapshot) (decision : Decision) (was now : Document) : Type 0 where
   pub takes : TakesDecision was look decision now
+  pub kept_is : now.kept ≡ was.kept
   pub lock_is : now.lock ≡ was.lock
   pub ticket : ℕ
   pub waiting_is : was.waiting.items ≡ ticket ∷ now.waiting.items

@@ -1,5 +1,5 @@
--- What contracts see of a book: its journal and the number of its drivers; and what holds of its fields.
-use Rattle.std.specs.Prelude.{◌≡◌, ℕ, zero, suc, ◌+◌, ◌≤◌, ◌==◌, List, ◌++◌, length, map, Option, if◌then◌else◌}
+-- What contracts see of a book: its journal, the number of its drivers and its keeper; and what holds of its fields.
+use Rattle.std.specs.Prelude.{◌≡◌, ℕ, zero, suc, ◌+◌, ◌≤◌, ◌==◌, Bool, List, ◌++◌, length, map, Option, if◌then◌else◌}
 use Rattle.journal_entries.specs.Journals.{Journaled, entries, spare}
 use Rattle.journal_entries.specs.declared.act.Act.{Act}
 use Rattle.journal_entries.specs.declared.act.Entry.{Entry}
@@ -9,12 +9,18 @@ use Rattle.journal_rules.specs.Legal.{clock_end, closed}
 use Rattle.turn_rules.specs.Turns.{entry_by}
 use Rattle.book.specs.declared.document.Document.{Document}
 use Rattle.rooms.specs.Rooms.{Roomed}
+use Rattle.ranges_tracker.specs.Kept.{Kept}
 use Rattle.book.specs.Roomed.{AreRoomed}
 use Rattle.book.specs.Standing.{AreDocuments, owed_for}
+use Rattle.book.specs.Stored.{IsKeeping}
 
+-- of the keeper, its documents, where its type tells them, its count of faults, and that count as the book was made
 pub record Shown : Type 0 where
   pub journal : List Entry
   pub drivers : ℕ
+  pub documents : List (List ℕ × Kept)
+  pub faults : ℕ
+  pub start : ℕ
 
 -- a run on one thread has one driver
 abbrev pub driver_count : ℕ → ℕ
@@ -39,11 +45,12 @@ pub record IsBook (journal : Journaled) (names : List (List ℕ)) (documents : L
   pub counted : owed_for documents + unclosed (driver_count drivers) (closed (entries journal)) ≤ owed
   pub room : owed ≤ spare journal
 
--- and so do its rooms
-pub record IsBookWithRooms (journal : Journaled) (names : List (List ℕ)) (documents : List Document) (rooms : Roomed) (now tokens owed drivers : ℕ) : Type 0 where
+-- and so do its rooms, and its keeper
+pub record IsBookWithKeeper (journal : Journaled) (names : List (List ℕ)) (documents : List Document) (rooms : Roomed) (now tokens owed drivers : ℕ) (tells : Bool) (stored : List (List ℕ × Kept)) (count start : ℕ) : Type 0 where
   pub book : IsBook journal names documents now tokens owed drivers
   pub roomed : AreRoomed rooms (entries journal)
+  pub keeps : IsKeeping tells stored count start (entries journal)
 
 -- a book with these entries more, by a seat, for a line or for none
 abbrev pub adds : Shown → ℕ → Option ℕ → List Act → Shown
-adds book seat line acts = record { journal = book.journal ++ map (entry_by seat line) acts; drivers = book.drivers }
+adds book seat line acts = record { journal = book.journal ++ map (entry_by seat line) acts; drivers = book.drivers; documents = book.documents; faults = book.faults; start = book.start }

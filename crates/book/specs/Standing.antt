@@ -11,7 +11,7 @@ use Rattle.journal_entries.specs.declared.act.Entry.{Entry}
 use Rattle.journal_rules.specs.Documents.{Item, makings, base, text, version, applied_list, waiting, is_in}
 use Rattle.journal_rules.specs.Tracking.{cells}
 use Rattle.journal_rules.specs.Deciding.{decided_of, passed_of, longest}
-use Rattle.journal_rules.specs.Keeping.{cached}
+use Rattle.journal_rules.specs.Keeping.{cached, kept}
 use Rattle.journal_rules.specs.Locks.{Acquiring, last_acquiring, released}
 use Rattle.journal_rules.specs.Legal.{IsLegal}
 use Rattle.book.specs.declared.document.Document.{Document}
@@ -55,6 +55,7 @@ pub record IsDocument (d : ℕ) (document : Document) (journal : List Entry) : T
   pub window_is : IsWindowOf d document.window journal
   pub waiting_is : document.waiting.items ≡ waiting d journal
   pub lock_is : document.lock ≡ lock_of d journal
+  pub kept_is : document.kept ≡ kept d journal
   pub cached_is : cached d journal ≡ true
 
 -- the journal is legal, and each document stands as it has it
@@ -83,6 +84,7 @@ pub record IsNew (document : Document) (first : List ℕ) (base : ℕ) : Type 0 
   pub window_is : document.window ≡ empty_at base
   pub waiting_is : document.waiting.items ≡ []
   pub lock_is : document.lock ≡ record { last = 0; until = 0; seat = 0; held = false }
+  pub kept_is : document.kept ≡ None
 
 -- the decision on an update by a document as it stands
 abbrev pub decision_on : Document → Update → Outcome
@@ -108,18 +110,21 @@ pub record Turns (doc : ℕ) (R : Document → Document → Type 0) (old new : L
 -- nothing but spare room
 pub record IsKeptAs (was now : Document) : Type 0 where
   pub same : IsSame was now
+  pub kept_is : now.kept ≡ was.kept
   pub lock_is : now.lock ≡ was.lock
   pub waiting_is : now.waiting.items ≡ was.waiting.items
 
 -- an update of this ticket waits behind the others
 pub record IsQueued (ticket : ℕ) (was now : Document) : Type 0 where
   pub same : IsSame was now
+  pub kept_is : now.kept ≡ was.kept
   pub lock_is : now.lock ≡ was.lock
   pub waiting_is : now.waiting.items ≡ was.waiting.items ++ ticket ∷ []
 
 -- the first that waited was taken
 pub record IsUnqueued (was now : Document) : Type 0 where
   pub same : IsSame was now
+  pub kept_is : now.kept ≡ was.kept
   pub lock_is : now.lock ≡ was.lock
   pub ticket : ℕ
   pub waiting_is : was.waiting.items ≡ ticket ∷ now.waiting.items
@@ -127,10 +132,19 @@ pub record IsUnqueued (was now : Document) : Type 0 where
 -- the lock is another
 pub record IsLocked (lock : LockState) (was now : Document) : Type 0 where
   pub same : IsSame was now
+  pub kept_is : now.kept ≡ was.kept
   pub lock_is : now.lock ≡ lock
   pub waiting_is : now.waiting.items ≡ was.waiting.items
 
 pub record IsFreed (was now : Document) : Type 0 where
   pub same : IsSame was now
+  pub kept_is : now.kept ≡ was.kept
   pub lock_is : now.lock ≡ record { last = was.lock.last; until = was.lock.until; seat = was.lock.seat; held = false }
+  pub waiting_is : now.waiting.items ≡ was.waiting.items
+
+-- the document was put into the keeper at a version
+pub record IsKeptAt (v : ℕ) (was now : Document) : Type 0 where
+  pub same : IsSame was now
+  pub kept_is : now.kept ≡ Some v
+  pub lock_is : now.lock ≡ was.lock
   pub waiting_is : now.waiting.items ≡ was.waiting.items

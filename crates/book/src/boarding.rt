@@ -2,13 +2,14 @@
 
 use crate::book::Book;
 use board::Journaled;
+use keeper::Keeper;
 
-impl Journaled for Book {
+impl<K: Keeper> Journaled for Book<K> {
     ghost journal = { λ b. b.journal };
 
     ghost drivers = { λ b. b.drivers };
 
-    ghost start = { λ _. 0 };
+    ghost start = { λ b. b.start };
 
     fn length(&self) -> u64 {
         self.journal.len()
@@ -19,6 +20,6 @@ impl Journaled for Book {
     }
 
     fn start(&self) -> u64 {
-        0
+        self.start
     }
 }

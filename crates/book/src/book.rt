@@ -1,6 +1,6 @@
 //! The book, with its calls.
 
-ghost use Rattle.std.specs.Prelude.{◌≡◌, ◌<◌, ◌≤◌, ◌+◌, ◌∷◌, [], length, nat_lt, false, IfOk, IfErr, IfSome, OnOk, OnErr, None, Some};
+ghost use Rattle.std.specs.Prelude.{◌≡◌, ◌<◌, ◌≤◌, ◌+◌, ◌∷◌, [], length, nat_lt, false, IsTrue, IfOk, IfErr, IfSome, OnOk, OnErr, None, Some};
 ghost use Rattle.journal_entries.specs.Journals.{entries};
 ghost use Rattle.journal_entries.specs.declared.limits.TheConstants.{MAX_RAW_SOURCE};
 ghost use Rattle.journal_entries.specs.declared.act.Act.TheVariants.{Made, Ticked, Declined, Closed};
@@ -12,6 +12,7 @@ ghost use Rattle.journal_rules.specs.Whys.{IsWhy};
 ghost use Rattle.book.specs.Shown.{adds, driver_count};
 ghost use Rattle.book.specs.Calls.{existing, MayNotTick, MayNotSend, raw_act, ticket_of_raw, update_by};
 ghost use Rattle.book.specs.Standing.{IsNew};
+ghost use Rattle.book.specs.Stored.{AreStored};
 
 use crate::document::Document;
 use crate::documents::Documents;
@@ -19,6 +20,7 @@ use crate::faults::{By, MakeFault, RawFault, RawUpdate, TickFault};
 use crate::mail::reserve_waiting;
 use crate::room::make_room;
 use journal_entries::{Act, Entry, Journal, MAX_MOMENT, Update, Why};
+use keeper::Keeper;
 use ot_op::Op;
 use ot_text::doc_text;
 use ot_units::{Name, Units};
@@ -26,9 +28,10 @@ use rooms::Rooms;
 use std::alloc::{AllocError, Global};
 use std::marker::Model;
 
-/// A legal journal, and the documents as it has them. Contracts see the journal and the number of drivers.
+/// A legal journal, the documents as it has them, and a keeper for those that are flushed. Contracts see
+/// the journal, the number of drivers, and of the keeper its documents and its count of faults.
 #[derive(Drop)]
-pub struct Book {
+pub struct Book<K: Keeper> {
     pub(crate) journal: Journal,
     pub(crate) documents: Documents,
     /// The clients that are in a document's room, with what they are still to be told of.
@@ -40,30 +43,39 @@ pub struct Book {
     /// For how many entries there is to be room.
     pub(crate) owed: u64,
     pub(crate) drivers: u32,
+    /// Where documents are put as they are flushed.
+    pub(crate) keeper: K,
+    /// The keeper's count of faults as the book was made.
+    pub(crate) start: u64,
     pub(crate) alloc: Global,
 }
 
-impl Model for Book {
+impl<K: Keeper> Model for Book<K> {
     ghost use Rattle.std.specs.Prelude.{◌≡◌};
     ghost use Rattle.journal_entries.specs.Journals.{entries};
-    ghost use Rattle.book.specs.Shown.{Shown, IsBookWithRooms};
+    ghost use Rattle.book.specs.Shown.{Shown, IsBookWithKeeper};
 
     ghost Value = { Shown };
 
-    ghost view = { λ b. record { journal = entries b.journal; drivers = b.drivers } };
+    ghost view = { λ b. record { journal = entries b.journal; drivers = b.drivers; documents = K.documents b.keeper; faults = K.count b.keeper; start = b.start } };
 
-    ghost invariant = { λ b. IsBookWithRooms b.journal b.documents.names b.documents.items b.rooms b.moment b.tokens b.owed b.drivers };
+    ghost invariant = { λ b. IsBookWithKeeper b.journal b.documents.names b.documents.items b.rooms b.moment b.tokens b.owed b.drivers K.tells (K.documents b.keeper) (K.count b.keeper) b.start };
 }
 
-impl Book {
-    /// A book without entries, of so many drivers; 0 stands for a run on one thread.
-    pub fn new(alloc: Global, drivers: u32) -> Result<Book, AllocError>
+impl<K: Keeper> Book<K> {
+    /// A book without entries, over a keeper, of so many drivers; 0 stands for a run on one thread.
+    /// Where memory is wanting the keeper is handed back.
+    pub fn new(alloc: Global, keeper: K, drivers: u32) -> Result<Book<K>, (AllocError, K)>
         requires { drivers ≤ 16 }
-        ensures { IfOk result (λ b. b ≡ record { journal = []; drivers = drivers }) }
+        ensures ok { IfOk result (λ b. b ≡ record { journal = []; drivers = drivers; documents = K.documents keeper; faults = K.count keeper; start = K.count keeper }) }
+        ensures err { IfErr result (λ r. r.1 ≡ keeper) }
     {
         let owed = owed_at_first(drivers);
+        let start = keeper.faults();
         let mut journal = Journal::new(alloc);
-        journal.reserve(owed)?;
+        let Ok(()) = journal.reserve(owed) else {
+            return Err((AllocError, keeper));
+        };
         Ok(Book {
             journal,
             documents: Documents::new(alloc),
@@ -72,6 +84,8 @@ impl Book {
             tokens: 0,
             owed,
             drivers,
+            keeper,
+            start,
             alloc,
         })
     }
@@ -239,12 +253,15 @@ impl Book {
         document.waiting.len() as u64
     }
 
-    /// The journal, for the end of a run.
-    pub fn ended(self) -> Journal
-        ensures entries { entries result ≡ self.journal }
-        ensures legal { IsLegal (entries result) }
+    /// The keeper and the journal, for the end of a run. Where the keeper tells its documents, each that
+    /// was flushed stands in it as the journal has it at the version of its last flush.
+    pub fn ended(self) -> (K, Journal)
+        ensures keeper { (K.documents result.0 ≡ self.documents) × (K.count result.0 ≡ self.faults) }
+        ensures stored { IsTrue K.tells → AreStored (K.documents result.0) (entries result.1) }
+        ensures entries { entries result.1 ≡ self.journal }
+        ensures legal { IsLegal (entries result.1) }
     {
-        self.journal
+        (self.keeper, self.journal)
     }
 }
 

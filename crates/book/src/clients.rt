@@ -21,12 +21,13 @@ use crate::room::make_room;
 use crate::sender::Sender;
 use journal_entries::{Act, Brief, FIRST_SOURCE, Msg};
 use journal_rules::ClientState;
+use keeper::Keeper;
 use mail_places::message_at;
 use ot_units::Name;
 use share_client::{Edit, EditFault, SendFault, ShareClient};
 use std::alloc::AllocError;
 
-impl Book {
+impl<K: Keeper> Book<K> {
     /// A client joins a document, from any state: it has the document's text at its version, and
     /// nothing of its own. Its source is its own, by the number of this entry.
     pub fn join(

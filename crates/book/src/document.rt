@@ -8,7 +8,7 @@ ghost use Rattle.book.specs.Standing.{IsNew};
 ghost use Rattle.dup_check.specs.Snapshot.{outcome_of};
 ghost use Rattle.book.specs.Looking.{IsLook, IsSettled, op_of};
 
-use crate::faults::Prepared;
+use crate::faults::{KeptLook, Prepared};
 use dup_check::{Decision, Past, Snapshot, Window};
 use expiring_lock::Lock;
 use journal_entries::{Outcome, Update};
@@ -27,6 +27,8 @@ pub(crate) struct Document {
     /// The tickets of the updates that wait, the first sent first.
     pub waiting: Queue<u64>,
     pub lock: Lock,
+    /// The version that was put into the keeper last.
+    pub kept: Option<u64>,
 }
 
 /// Under which token a look is made, and at which length of the journal.
@@ -50,6 +52,7 @@ impl Document {
             window: Window::new(alloc, version)?,
             waiting: Queue::new(alloc),
             lock: Lock::new(),
+            kept: None,
         })
     }
 
@@ -76,6 +79,24 @@ impl Document {
             past: past.unwrap_or(Vec::new(alloc)),
             update: update.copy(alloc)?,
             at: taking.at,
+        })
+    }
+
+    /// The document as it is to be put into the keeper.
+    pub(crate) fn kept_look(
+        &self,
+        alloc: Global,
+        doc: u32,
+        token: u64,
+    ) -> Result<KeptLook, AllocError>
+        ensures { IfOk result (λ look. look ≡ record { token = token; doc = doc; version = self.now.window.version; text = self.now.text; ranges = self.now.ranges }) }
+    {
+        Ok(KeptLook {
+            token,
+            doc,
+            version: self.window.version(),
+            text: self.text.copy(alloc)?,
+            ranges: self.ranges.copy(alloc)?,
         })
     }
 

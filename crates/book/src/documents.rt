@@ -7,7 +7,7 @@ ghost use Rattle.expiring_lock.specs.Locks.{IsUnexpired, IsCurrent};
 ghost use Rattle.expiring_lock.specs.declared.lock.TheConstants.{LOCK_LIFE};
 ghost use Rattle.journal_rules.specs.Documents.{update_at as update_at_lem};
 ghost use Rattle.dup_check.specs.Snapshot.{outcome_of};
-ghost use Rattle.book.specs.Standing.{Turns, IsQueued, IsKeptAs, IsUnqueued, IsLocked, IsFreed};
+ghost use Rattle.book.specs.Standing.{Turns, IsQueued, IsKeptAs, IsUnqueued, IsLocked, IsFreed, IsKeptAt};
 ghost use Rattle.book.specs.Calls.{stale_in};
 ghost use Rattle.book.specs.Looking.{IsSettled, op_of};
 ghost use Rattle.book.specs.declared.document.Document.{Document};
@@ -160,6 +160,18 @@ impl Documents {
         let Ok(()) = document.lock.let_go(token) else {
             unreachable!()
         };
+    }
+
+    /// A document was put into the keeper at a version.
+    pub(crate) fn keep(&mut self, doc: usize, v: u64)
+        requires { doc < length self.old.items }
+        ensures names { self.new.names ≡ self.old.names }
+        ensures kept { Turns doc (IsKeptAt v) self.old.items self.new.items }
+    {
+        let Some(document) = self.store.get_mut(doc) else {
+            unreachable!()
+        };
+        document.kept = Some(v);
     }
 
     /// The first update that waits is taken.

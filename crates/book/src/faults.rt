@@ -7,7 +7,9 @@ use dup_check::{Decision, Snapshot};
 use expiring_lock::{Busy, Stale};
 use journal_entries::Sources;
 use ot_op::{FormFault, Op};
+use ot_text::DocText;
 use ot_units::Name;
+use ranges_tracker::{KeptDoc, Ranges};
 use std::alloc::{AllocError, Global};
 
 /// By which seat an entry is made, and for which line of the script, from 1, or for none.
@@ -46,6 +48,35 @@ impl Prepared {
             Decision::Dup(_) | Decision::Refuse(_) => Ok(Op::empty(alloc)),
         }
     }
+}
+
+/// A document as it is taken up to be put into the keeper: `version` counts the operations that were
+/// applied to it.
+#[derive(Debug, Drop)]
+pub struct KeptLook {
+    pub token: u64,
+    pub doc: u32,
+    pub version: u64,
+    pub text: DocText,
+    pub ranges: Ranges,
+}
+
+/// What is put into the keeper for a document, under the token of its lock.
+#[derive(Debug, Drop)]
+pub struct PreparedKept {
+    pub token: u64,
+    pub doc: u32,
+    pub kept: KeptDoc,
+}
+
+/// Why a document isn't put into the keeper.
+#[derive(Clone, Copy, Debug, PartialEq, Eq)]
+pub enum FlushFault {
+    /// The token no longer stands.
+    Stale(Stale),
+    Memory,
+    /// The keeper failed: its count of faults was `before` as the call began, and is `after`.
+    StoreFault { before: u64, after: u64 },
 }
 
 /// Why a document isn't made.
@@ -102,6 +133,8 @@ pub enum AcquireFault {
     Empty,
     /// It is held, and the lock hasn't expired.
     Busy(Busy),
+    /// It isn't cached, and was to be taken up without loading it.
+    Uncached,
     Memory,
 }
 

@@ -21,8 +21,9 @@ use crate::room::make_room;
 use dup_check::Snapshot;
 use expiring_lock::Stale;
 use journal_entries::{Act, Cause, Outcome};
+use keeper::Keeper;
 
-impl Book {
+impl<K: Keeper> Book<K> {
     /// Acquires a document's lock under the next token, and answers what the first update that waits is decided by.
     pub fn acquire(&mut self, by: By, doc: u32) -> Result<Snapshot, AcquireFault>
         ensures acquired { IfOk result (λ look. self.new ≡ adds self.old by.seat by.line (acquired doc self.old.journal ∷ [])) }
@@ -179,7 +180,7 @@ impl Book {
 }
 
 // What is wrong with a token of a document that wasn't made.
-fn never_given(token: u64) -> Stale
+pub(crate) fn never_given(token: u64) -> Stale
     ensures { stale_in (record { last = 0; until = 0; seat = 0; held = false }) token ≡ Some result }
 {
     if token == 0 {

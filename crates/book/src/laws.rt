@@ -1,6 +1,6 @@
 //! What is true of books, of their clients and of looks. The functions here do nothing: their contracts are the laws.
 
-ghost use Rattle.std.specs.Prelude.{◌≡◌, List, ◌++◌, true, None, All};
+ghost use Rattle.std.specs.Prelude.{◌≡◌, ℕ, List, ◌++◌, true, None, All};
 ghost use Rattle.dup_check.specs.declared.snapshot.Snapshot.{Snapshot};
 ghost use Rattle.dup_check.specs.declared.snapshot.Decision.{Decision};
 ghost use Rattle.dup_check.specs.Snapshot.{outcome_of};
@@ -13,15 +13,24 @@ ghost use Rattle.journal_rules.specs.Client.{is_alive};
 ghost use Rattle.journal_rules.specs.Locks.{Holds};
 ghost use Rattle.turn_rules.specs.Locking.{staleness};
 ghost use Rattle.book.specs.Calls.{MayRefuse};
+ghost use Rattle.book.specs.Flushing.{IsKeptLook, IsMadeOf, IsPreparedFor};
+ghost use Rattle.book.specs.declared.faults.KeptLook.{KeptLook};
+ghost use Rattle.book.specs.declared.faults.PreparedKept.{PreparedKept};
 ghost use Rattle.book.specs.Roomed.{IsClientOf};
 ghost use Rattle.book.specs.Looking.{IsDecided, IsLookAt, IsNoCommit, IsOf, IsSince};
 
 use crate::book::Book;
+use keeper::Keeper;
 use share_client::ShareClient;
 
 /// What [`Book::acquire`] answers is a look of the journal that it leaves.
 pub fn look_begins()
     ensures { (look : Snapshot) (journal : List Entry) → IsLookAt journal look → IsOf look journal }
+{}
+
+/// What is made of what [`Book::acquire_any`] answers may be put into the keeper by its seat.
+pub fn kept_look_begins()
+    ensures { (look : KeptLook) (prepared : PreparedKept) (seat : ℕ) (journal : List Entry) → IsKeptLook journal seat look → IsMadeOf look prepared → IsPreparedFor journal seat prepared }
 {}
 
 /// A look stays a look of the journal until it is committed: nobody else can commit under its token.
@@ -44,7 +53,7 @@ pub fn look_may_be_refused()
     ensures { (look : Snapshot) (journal : List Entry) → IsLegal journal → IsOf look journal → staleness look.doc look.token journal ≡ None → MayRefuse journal look.seat look.doc look.token look.ticket Memory }
 {}
 
-impl Book {
+impl<K: Keeper> Book<K> {
     /// The journal of a book is legal. Does nothing.
     pub fn legal(&self)
         ensures { IsLegal self.now.journal }

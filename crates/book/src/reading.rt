@@ -1,7 +1,8 @@
 //! What a book is read for at the end of a run: its documents as they stand, and who has mail.
 
-ghost use Rattle.std.specs.Prelude.{◌≡◌, Some, is_some, slice_get};
+ghost use Rattle.std.specs.Prelude.{◌≡◌, ◌↔◌, false, Some, is_some, slice_get};
 ghost use Rattle.journal_rules.specs.Documents.{IsMade, name as name_lem, text as text_lem, version as version_lem};
+ghost use Rattle.journal_rules.specs.Keeping.{kept as kept_lem};
 ghost use Rattle.journal_rules.specs.Mail.{mail};
 ghost use Rattle.journal_rules.specs.Tracking.{cells};
 ghost use Rattle.ranges_tracker.specs.Shown.{shown};
@@ -9,11 +10,12 @@ ghost use Rattle.book.specs.Standing.{IsDocument};
 
 use crate::book::Book;
 use crate::document::Document;
+use keeper::Keeper;
 use ot_text::DocText;
 use ot_units::Name;
 use ranges_tracker::Ranges;
 
-impl Book {
+impl<K: Keeper> Book<K> {
     /// The name of a document.
     pub fn name(&self, doc: u32) -> &Name
         requires { IsMade doc self.now.journal }
@@ -57,6 +59,22 @@ impl Book {
         ensures { result ≡ version_lem doc self.now.journal }
     {
         self.document(doc).window.version()
+    }
+
+    /// The version that was put into the keeper last, or `None` where none ever was.
+    pub fn kept(&self, doc: u32) -> Option<u64>
+        requires { IsMade doc self.now.journal }
+        ensures { result ≡ kept_lem doc self.now.journal }
+    {
+        self.document(doc).kept
+    }
+
+    /// Whether a document's version isn't in the keeper: it was never put there, or at a lower version.
+    pub fn needs_flush(&self, doc: u32) -> bool
+        requires { IsMade doc self.now.journal }
+        ensures { (result ≡ false) ↔ (kept_lem doc self.now.journal ≡ Some (version_lem doc self.now.journal)) }
+    {
+        self.kept(doc) != Some(self.version(doc))
     }
 
     /// Whether a client has mail: a message that it was told, and that it didn't get yet.

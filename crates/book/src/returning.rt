@@ -13,10 +13,11 @@ use crate::room::make_room;
 use dup_check::Window;
 use journal_entries::{Act, FIRST_SOURCE, MAX_AGE};
 use journal_rules::ClientState;
+use keeper::Keeper;
 use share_client::{Missed, ShareClient};
 use std::alloc::{AllocError, Global};
 
-impl Book {
+impl<K: Keeper> Book<K> {
     /// A client that left comes back to its document: what was applied since is delivered to it, and
     /// its flight and what is pending go on. Its source is a new one, by the number of this entry.
     /// It's refused, the first that holds, with [`JoinFault::NotLeft`] where it hasn't left, and with

@@ -1,4 +1,4 @@
-//! A takeover with two holders, on a book alone.
+//! A takeover with two holders, and flushes over a keeper that fails, on a book alone.
 
 ghost use Rattle.std.specs.Prelude.{◌≡◌, ◌≢◌, ◌∷◌, [], IfOk, OnOk};
 ghost use Rattle.ot_op.specs.declared.comp.Comp.TheVariants.{Ins};
@@ -8,7 +8,9 @@ ghost use Rattle.book.specs.Looking.{IsDecided, IsOf};
 use book::{AcquireFault, Book, By, CommitFault, Prepared, RawUpdate};
 use dup_check::decide;
 use expiring_lock::{Busy, Stale};
-use journal_entries::{Act, Outcome, Sources};
+use flush_manager::{FlushEnd, flush_doc};
+use journal_entries::{Act, Entry, Outcome, Sources, Why};
+use keeper::{Keeper, MemoryKeeper, SureKeeper};
 use ot_op::{Comp, FormFault, Op};
 use ot_units::{Name, Units};
 use std::alloc::Global;
@@ -50,8 +52,10 @@ fn raw(alloc: Global, doc: u32, op: Result<Op, FormFault>) -> Result<RawUpdate, 
 }
 
 // A book with the document `abc`, and one update that waits for it.
-fn begun(alloc: Global) -> Result<Book, Fail> {
-    let mut book = Book::new(alloc, 0)?;
+fn begun<K: Keeper>(alloc: Global, keeper: K) -> Result<Book<K>, Fail> {
+    let Ok(mut book) = Book::new(alloc, keeper, 0) else {
+        return Err(Fail::new("no book"));
+    };
     if book.docs() != 0 {
         return Err(Fail::new("a document of a new book"));
     }
@@ -68,7 +72,7 @@ fn begun(alloc: Global) -> Result<Book, Fail> {
 }
 
 // A seat acquires the document, and decides on the first update that waits.
-fn prepared(alloc: Global, book: &mut Book, seat: u32) -> Result<Prepared, Fail>
+fn prepared(alloc: Global, book: &mut Book<SureKeeper>, seat: u32) -> Result<Prepared, Fail>
     ensures looks { IfOk result (λ p. IsOf p.look book.new.journal) }
     ensures decided { IfOk result (λ p. IsDecided p.look p.decision) }
     ensures seat { IfOk result (λ p. p.look.seat ≡ seat) }
@@ -81,7 +85,12 @@ fn prepared(alloc: Global, book: &mut Book, seat: u32) -> Result<Prepared, Fail>
 }
 
 // The same while another's look stays a look.
-fn overtaken(alloc: Global, book: &mut Book, seat: u32, first: &Prepared) -> Result<Prepared, Fail>
+fn overtaken(
+    alloc: Global,
+    book: &mut Book<SureKeeper>,
+    seat: u32,
+    first: &Prepared,
+) -> Result<Prepared, Fail>
     requires looked { IsOf first.now.look book.old.journal }
     requires apart { first.now.look.seat ≢ seat }
     ensures looks { IfOk result (λ p. IsOf p.look book.new.journal) }
@@ -98,7 +107,7 @@ fn overtaken(alloc: Global, book: &mut Book, seat: u32, first: &Prepared) -> Res
 }
 
 // The clock goes on, and a look stays a look.
-fn wait(book: &mut Book, ms: u64, first: &Prepared) -> Result<(), Fail>
+fn wait(book: &mut Book<SureKeeper>, ms: u64, first: &Prepared) -> Result<(), Fail>
     requires { IsOf first.now.look book.old.journal }
     ensures { OnOk result (IsOf first.now.look book.new.journal) }
 {
@@ -110,7 +119,7 @@ fn wait(book: &mut Book, ms: u64, first: &Prepared) -> Result<(), Fail>
 }
 
 // The document is held, and nothing was changed.
-fn held(book: &mut Book, seat: u32) -> Result<Busy, Fail>
+fn held(book: &mut Book<SureKeeper>, seat: u32) -> Result<Busy, Fail>
     ensures { OnOk result (book.new ≡ book.old) }
 {
     let Err(AcquireFault::Busy(busy)) = book.acquire(by(seat), 0) else {
@@ -120,7 +129,7 @@ fn held(book: &mut Book, seat: u32) -> Result<Busy, Fail>
 }
 
 // What a holder whose lock was taken over is told, where it would commit.
-fn refused(book: &mut Book, prepared: Prepared) -> Option<Stale>
+fn refused(book: &mut Book<SureKeeper>, prepared: Prepared) -> Option<Stale>
     requires looked { IsOf prepared.look book.old.journal }
     requires decided { IsDecided prepared.look prepared.decision }
 {
@@ -132,7 +141,7 @@ fn refused(book: &mut Book, prepared: Prepared) -> Option<Stale>
 }
 
 // A decision is committed, and the lock released: whether more waits. Another's look stays a look.
-fn finished(book: &mut Book, prepared: Prepared, first: &Prepared) -> Option<bool>
+fn finished(book: &mut Book<SureKeeper>, prepared: Prepared, first: &Prepared) -> Option<bool>
     requires looked { IsOf prepared.look book.old.journal }
     requires decided { IsDecided prepared.look prepared.decision }
     requires first { IsOf first.now.look book.old.journal }
@@ -154,7 +163,7 @@ fn finished(book: &mut Book, prepared: Prepared, first: &Prepared) -> Option<boo
 }
 
 // The entry that tells what became of the update.
-fn is_applied(book: &Book) -> bool {
+fn is_applied(book: &Book<SureKeeper>) -> bool {
     let Some(entry) = book.journal().get(6) else {
         return false;
     };
@@ -170,7 +179,11 @@ fn is_applied(book: &Book) -> bool {
 }
 
 // The second holder commits, and the first is refused.
-fn settled(book: &mut Book, first: Prepared, second: Prepared) -> (Option<Stale>, Option<bool>)
+fn settled(
+    book: &mut Book<SureKeeper>,
+    first: Prepared,
+    second: Prepared,
+) -> (Option<Stale>, Option<bool>)
     requires first { IsOf first.look book.old.journal }
     requires decided { IsDecided first.look first.decision }
     requires second { IsOf second.look book.old.journal }
@@ -185,7 +198,7 @@ fn settled(book: &mut Book, first: Prepared, second: Prepared) -> (Option<Stale>
 // One seat holds the document until its lock expires, and another takes it over.
 fn taken_over(
     alloc: Global,
-    book: &mut Book,
+    book: &mut Book<SureKeeper>,
     first: Prepared,
 ) -> Result<(Busy, Option<Stale>, Option<bool>), Fail>
     requires looked { IsOf first.look book.old.journal }
@@ -203,11 +216,81 @@ fn taken_over(
 #[test]
 fn an_expired_holder_commits_nothing(rt: HostRuntime) -> Result<(), Fail> {
     let alloc = rt.alloc();
-    let mut book = begun(alloc)?;
+    let mut book = begun(alloc, SureKeeper::new(alloc))?;
     let first = prepared(alloc, &mut book, 1)?;
     let (busy, stale, more) = taken_over(alloc, &mut book, first)?;
     assert!(rt; busy.token == 1 && busy.until == 30_000);
     assert!(rt; more == Some(false) && is_applied(&book));
     assert!(rt; stale == Some(Stale::Other(2)));
+    Ok(())
+}
+
+// The acts of a journal, by their kinds.
+fn kinds(alloc: Global, entries: &[Entry]) -> Result<Vec<&'static str>, Fail> {
+    let mut kinds = Vec::new(alloc);
+    for entry in entries {
+        kinds.push(match entry.act {
+            Act::Made { .. } => "made",
+            Act::Sent { .. } => "sent",
+            Act::Acquired { .. } => "acquired",
+            Act::Flushed { .. } => "flushed",
+            Act::FlushFailed { .. } => "flush-failed",
+            Act::Released { .. } => "released",
+            _ => "another",
+        })?;
+    }
+    Ok(kinds)
+}
+
+// The keeper fails at the first put, and keeps the document at the second; a document that wasn't made
+// is refused, and one that another holds.
+#[test]
+fn what_is_flushed_stands_in_the_keeper(rt: HostRuntime) -> Result<(), Fail> {
+    let alloc = rt.alloc();
+    let mut book = begun(alloc, MemoryKeeper::new(alloc, &[], &[1])?)?;
+    let failed = flush_doc(alloc, &mut book, by(0), 0);
+    assert_eq!(rt;
+        failed,
+        FlushEnd::Failed {
+            before: 0,
+            after: 1
+        }
+    );
+    assert_eq!(rt; flush_doc(alloc, &mut book, by(0), 0), FlushEnd::Done);
+    assert_eq!(rt;
+        flush_doc(alloc, &mut book, by(0), 1),
+        FlushEnd::Refused(Why::NoDoc)
+    );
+    let Ok(_look) = book.acquire(by(2), 0) else {
+        return Err(Fail::new("a lock that isn't free"));
+    };
+    let held = Busy {
+        token: 3,
+        until: 30_000,
+    };
+    assert_eq!(rt;
+        flush_doc(alloc, &mut book, by(0), 0),
+        FlushEnd::Refused(Why::Busy(held))
+    );
+    let (mut keeper, journal) = book.ended();
+    let kinds = kinds(alloc, journal.as_slice())?;
+    let want = [
+        "made",
+        "sent",
+        "acquired",
+        "flush-failed",
+        "released",
+        "acquired",
+        "flushed",
+        "released",
+        "acquired",
+    ];
+    assert_eq!(rt; kinds.as_slice(), want.as_slice());
+    let Some(kept) = keeper.get(alloc, name(alloc, "a")?.as_str())? else {
+        return Err(Fail::new("no document in the keeper"));
+    };
+    assert_eq!(rt; kept.version(), 0);
+    assert_eq!(rt; kept.text(alloc)?.as_slice(), [97, 98, 99].as_slice());
+    assert_eq!(rt; keeper.faults(), 1);
     Ok(())
 }

@@ -10,13 +10,14 @@ ghost use Rattle.client_lines.specs.Refusals.{edit_why};
 
 use book::{Book, By};
 use journal_entries::Why;
+use keeper::Keeper;
 use share_client::{Edit, EditFault, ShareClient};
 use std::alloc::AllocError;
 
 /// A client edits its text, or the line is declined for what stands against it. The only error is
 /// want of memory, and nothing was written then.
-pub(crate) fn edit(
-    book: &mut Book,
+pub(crate) fn edit<K: Keeper>(
+    book: &mut Book<K>,
     client: &mut ShareClient,
     by: By,
     edit: &Edit,

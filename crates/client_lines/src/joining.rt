@@ -9,14 +9,15 @@ ghost use Rattle.client_lines.specs.Joining.{join_act};
 
 use book::{Book, By, JoinFault};
 use journal_entries::Why;
+use keeper::Keeper;
 use ot_units::Name;
 use share_client::ShareClient;
 use std::alloc::AllocError;
 
 /// A client joins the document of a name, or the line is declined where there is none. The only error
 /// is want of memory, and nothing was written then.
-pub fn join_named(
-    book: &mut Book,
+pub fn join_named<K: Keeper>(
+    book: &mut Book<K>,
     client: &mut ShareClient,
     by: By,
     name: &Name,

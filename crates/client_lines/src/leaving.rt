@@ -7,12 +7,17 @@ ghost use Rattle.turn_rules.specs.Clients.{leave_act};
 
 use book::{Book, By, LeaveFault};
 use journal_entries::Why;
+use keeper::Keeper;
 use share_client::ShareClient;
 use std::alloc::AllocError;
 
 /// A client leaves its document, or the line is declined where it's in none. The only error is want
 /// of memory, and nothing was written then.
-pub(crate) fn leave(book: &mut Book, client: &mut ShareClient, by: By) -> Result<(), AllocError>
+pub(crate) fn leave<K: Keeper>(
+    book: &mut Book<K>,
+    client: &mut ShareClient,
+    by: By,
+) -> Result<(), AllocError>
     requires { IsClientOf book.old.journal client.old }
     ensures leaves { OnOk result (book.new ≡ adds book.old by.seat by.line (leave_act client.old.client book.old.journal ∷ [])) }
     ensures client { OnOk result (IsClientAfter book.new.journal client.old client.new) }

@@ -11,6 +11,7 @@ use crate::mail::receive;
 use crate::returning::rejoin;
 use crate::sending::{resend, send};
 use book::{Book, By};
+use keeper::Keeper;
 use share_client::{Edit, ShareClient};
 use std::alloc::AllocError;
 
@@ -33,8 +34,8 @@ pub enum ClientLine {
 
 /// A client does what a line tells it, or the line is declined for the first that stands against it.
 /// The only error is want of memory, and nothing was written then.
-pub fn do_line(
-    book: &mut Book,
+pub fn do_line<K: Keeper>(
+    book: &mut Book<K>,
     client: &mut ShareClient,
     by: By,
     line: &ClientLine,

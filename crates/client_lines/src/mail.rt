@@ -7,12 +7,17 @@ ghost use Rattle.turn_rules.specs.Clients.{recv_act};
 
 use book::{Book, By};
 use journal_entries::Why;
+use keeper::Keeper;
 use share_client::ShareClient;
 use std::alloc::AllocError;
 
 /// A client gets the first message of its mail, or the line is declined where its mail is empty. The
 /// only error is want of memory, and nothing was written then.
-pub(crate) fn receive(book: &mut Book, client: &mut ShareClient, by: By) -> Result<(), AllocError>
+pub(crate) fn receive<K: Keeper>(
+    book: &mut Book<K>,
+    client: &mut ShareClient,
+    by: By,
+) -> Result<(), AllocError>
     requires { IsClientOf book.old.journal client.old }
     ensures gets { OnOk result (book.new ≡ adds book.old by.seat by.line (recv_act client.old.client book.old.journal ∷ [])) }
     ensures client { OnOk result (IsClientAfter book.new.journal client.old client.new) }

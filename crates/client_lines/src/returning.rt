@@ -7,12 +7,17 @@ ghost use Rattle.turn_rules.specs.Clients.{rejoin_act};
 
 use book::{Book, By, JoinFault};
 use journal_entries::Why;
+use keeper::Keeper;
 use share_client::ShareClient;
 use std::alloc::AllocError;
 
 /// A client comes back to the document that it left, or the line is declined for what stands against
 /// it. The only error is want of memory, and nothing was written then.
-pub(crate) fn rejoin(book: &mut Book, client: &mut ShareClient, by: By) -> Result<(), AllocError>
+pub(crate) fn rejoin<K: Keeper>(
+    book: &mut Book<K>,
+    client: &mut ShareClient,
+    by: By,
+) -> Result<(), AllocError>
     requires { IsClientOf book.old.journal client.old }
     ensures joins { OnOk result (book.new ≡ adds book.old by.seat by.line (rejoin_act client.old.client book.old.journal ∷ [])) }
     ensures client { OnOk result (IsClientAfter book.new.journal client.old client.new) }

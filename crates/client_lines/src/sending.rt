@@ -8,12 +8,17 @@ ghost use Rattle.client_lines.specs.Refusals.{send_why};
 
 use book::{Book, By};
 use journal_entries::Why;
+use keeper::Keeper;
 use share_client::{SendFault, ShareClient};
 use std::alloc::AllocError;
 
 /// A client sends what is pending, or the line is declined for what stands against it. The only error
 /// is want of memory, and nothing was written then.
-pub(crate) fn send(book: &mut Book, client: &mut ShareClient, by: By) -> Result<(), AllocError>
+pub(crate) fn send<K: Keeper>(
+    book: &mut Book<K>,
+    client: &mut ShareClient,
+    by: By,
+) -> Result<(), AllocError>
     requires { IsClientOf book.old.journal client.old }
     ensures sends { OnOk result (book.new ≡ adds book.old by.seat by.line (send_act client.old.client book.old.journal ∷ [])) }
     ensures client { OnOk result (IsClientAfter book.new.journal client.old client.new) }
@@ -30,7 +35,11 @@ pub(crate) fn send(book: &mut Book, client: &mut ShareClient, by: By) -> Result<
 
 /// A client sends what is in flight again, or the line is declined for what stands against it. The
 /// only error is want of memory, and nothing was written then.
-pub(crate) fn resend(book: &mut Book, client: &mut ShareClient, by: By) -> Result<(), AllocError>
+pub(crate) fn resend<K: Keeper>(
+    book: &mut Book<K>,
+    client: &mut ShareClient,
+    by: By,
+) -> Result<(), AllocError>
     requires { IsClientOf book.old.journal client.old }
     ensures sends { OnOk result (book.new ≡ adds book.old by.seat by.line (resend_act client.old.client book.old.journal ∷ [])) }
     ensures client { OnOk result (IsClientAfter book.new.journal client.old client.new) }

@@ -1,5 +1,5 @@
 -- What taking up an update finds and leaves.
-use Rattle.std.proofs.Common.{◌≡◌, ℕ, ◌+◌, List, [], ◌∷◌, ◌++◌, length, Bool, true, false, true≢false, not, refl, sym, ap, ◌∙◌, subst, inl, eq-eqb, append-nil}
+use Rattle.std.proofs.Common.{◌≡◌, ℕ, ◌+◌, List, [], ◌∷◌, ◌++◌, length, Bool, true, false, true≢false, not, refl, sym, ap, ap₂, ◌∙◌, subst, inl, eq-eqb, append-nil}
 use Rattle.std.specs.Prelude.{Option, Some, None, ◌==◌, nat_lt, if◌then◌else◌}
 use Rattle.std.proofs.lemmas.Bool.{lt-ltb}
 use Rattle.expiring_lock.specs.declared.lock.TheConstants.{LOCK_LIFE}
@@ -21,7 +21,7 @@ use Rattle.book.specs.Calls.{MayRefuse, acquire_refused, refused_where}
 use Rattle.book.specs.Looking.{IsLookAt}
 use Rattle.book.specs.declared.faults.AcquireFault.TheVariants as acquire
 use Rattle.book.proofs.Acquirings.{next_unused}
-use Rattle.book.proofs.Tokens.{next_unreleased}
+use Rattle.book.proofs.Taken as taken
 
 -- ---- why it is refused
 pub free_and_waits : (b : Bool) (w : List ℕ) (o : Option Busy) → (if b then refused_where w o else Some acquire.NoDoc) ≡ None → (o ≡ None) × ((ticket : ℕ) × (rest : List ℕ) × (w ≡ ticket ∷ rest))
@@ -43,15 +43,13 @@ module _ (doc : ℕ) (j : List Entry) where
 -- ---- what it leaves
 module _ (seat : ℕ) (line : Option ℕ) (doc : ℕ) (old new : List Entry) (look : Snapshot) (is : new ≡ old ++ entry_by seat line (acquired doc old) ∷ []) (looks : IsLookAt new look) (doc_is : look.doc ≡ doc) where
   abbrev pub taking : Acquiring
-  taking = record { seat = seat; doc = doc; token = next_token old; until = clock old + LOCK_LIFE }
+  taking = taken.taking seat line doc old new is
 
   pub last_taken : last_acquiring look.doc new ≡ Some taking
-  last_taken =
-      ap (λ d. last_acquiring d new) doc_is ∙ ap (last_acquiring doc) is ∙ last_acquiring-push doc old (entry_by seat line (acquired doc old))
-      ∙ ap (λ b. if b then Some taking else last_acquiring doc old) (eq-eqb doc doc refl)
+  last_taken = ap (λ d. last_acquiring d new) doc_is ∙ taken.last_taken seat line doc old new is
 
   pub token_taken : next_token old ≡ look.token
-  token_taken = ap (λ (a : Acquiring). a.token) (some_same taking looks.acquiring (sym last_taken ∙ looks.last)) ∙ looks.token_is
+  token_taken = taken.token_taken seat line doc old new is looks.acquiring (ap (λ d. last_acquiring d new) (sym doc_is) ∙ looks.last) ∙ looks.token_is
 
   pub takes : acquire_refused doc old ≡ None → cached doc old ≡ true → TakesUp (entry_by seat line) doc look.token true old (entry_by seat line (acquired doc old) ∷ [])
   takes e here =
@@ -68,15 +66,12 @@ module _ (seat : ℕ) (line : Option ℕ) (doc : ℕ) (old new : List Entry) (lo
       }
 
   module _ (legal : IsLegal old) where
-    unreleased : is_in look.token (released new) ≡ false
-    unreleased = ap (is_in look.token) (ap released is ∙ released-push old (entry_by seat line (acquired doc old)) ∙ append-nil (released old)) ∙ ap (λ t. is_in t (released old)) (sym token_taken) ∙ next_unreleased old legal
-
     unused : is_in look.token (used new) ≡ false
     unused = ap (is_in look.token) (ap used is ∙ used-push old (entry_by seat line (acquired doc old)) ∙ append-nil (used old)) ∙ ap (λ t. is_in t (used old)) (sym token_taken) ∙ next_unused old legal
 
     pub may_refuse : MayRefuse new seat look.doc look.token look.ticket NoMemory
     may_refuse = record {
-      holds = record { acquiring = taking; held = record { last = last_taken; standing = ap (λ t. is_in t (released new)) token_taken ∙ unreleased }; token_is = token_taken; seat_is = refl };
+      holds = record { acquiring = taking; held = record { last = last_taken; standing = taken.unreleased seat line doc old new is legal }; token_is = token_taken; seat_is = refl };
       unused = unused;
       rest = looks.rest;
       first = looks.first;
@@ -84,8 +79,4 @@ module _ (seat : ℕ) (line : Option ℕ) (doc : ℕ) (old new : List Entry) (lo
     }
 
     pub not_stale : staleness look.doc look.token new ≡ None
-    not_stale =
-        ap (λ o. if token_in o == look.token then (if is_held_in o (released new) then None else Some Ended) else Some (Other (token_in o))) last_taken
-        ∙ ap (λ t. if t == look.token then (if not (is_in t (released new)) then None else Some Ended) else Some (Other t)) token_taken
-        ∙ ap (λ b. if b then (if not (is_in look.token (released new)) then None else Some Ended) else Some (Other look.token)) (eq-eqb look.token look.token refl)
-        ∙ ap (λ b. if not b then None else Some Ended) unreleased
+    not_stale = ap₂ (λ d t. staleness d t new) doc_is (sym token_taken) ∙ taken.not_stale seat line doc old new is legal

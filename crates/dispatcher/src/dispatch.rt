@@ -19,6 +19,7 @@ use book::{AcquireFault, Book, By, Prepared};
 use dup_check::{Snapshot, decide};
 use expiring_lock::Busy;
 use journal_entries::Cause;
+use keeper::Keeper;
 use std::alloc::{AllocError, Global};
 
 /// How draining ended, and how many updates were committed: `count` is the number of the `committed` entries
@@ -41,7 +42,7 @@ pub enum DrainEnd {
 ///
 /// Where memory is wanting for a decision or its commit, the update is refused for that, which takes no memory;
 /// draining goes on. It ends early only as [`DrainEnd`] says, and no lock is kept at its end.
-pub fn drain(alloc: Global, book: &mut Book, by: By, doc: u32, most: u64) -> DrainEnd
+pub fn drain<K: Keeper>(alloc: Global, book: &mut Book<K>, by: By, doc: u32, most: u64) -> DrainEnd
     requires made { IsMade doc book.old.journal }
     ensures drained { Drained (entry_by by.seat by.line) doc most book.old.journal book.new.journal result }
     ensures drivers { book.new.drivers ≡ book.old.drivers }
@@ -54,13 +55,19 @@ pub fn drain(alloc: Global, book: &mut Book, by: By, doc: u32, most: u64) -> Dra
             Err(AcquireFault::Memory) => return DrainEnd::Memory { count },
             Err(AcquireFault::Empty) => return DrainEnd::Done { count },
             Err(AcquireFault::NoDoc) => unreachable!(),
+            Err(AcquireFault::Uncached) => unreachable!(),
         }
     }
     DrainEnd::Done { count }
 }
 
 // Drains the first update that waits.
-fn drain_one(alloc: Global, book: &mut Book, by: By, doc: u32) -> Result<(), AcquireFault>
+fn drain_one<K: Keeper>(
+    alloc: Global,
+    book: &mut Book<K>,
+    by: By,
+    doc: u32,
+) -> Result<(), AcquireFault>
     requires made { IsMade doc book.old.journal }
     ensures made { IsMade doc book.new.journal }
     ensures drains { OnOk result (DrainsOne (entry_by by.seat by.line) Alone doc book.old.journal book.new.journal) }
@@ -75,7 +82,7 @@ fn drain_one(alloc: Global, book: &mut Book, by: By, doc: u32) -> Result<(), Acq
 }
 
 // Commits what was taken up, and releases the lock.
-fn settle(alloc: Global, book: &mut Book, by: By, look: Snapshot)
+fn settle<K: Keeper>(alloc: Global, book: &mut Book<K>, by: By, look: Snapshot)
     requires seat { by.seat ≡ look.seat }
     requires looked { IsLookAt book.old.journal look }
     requires decidable { CanDecide look }
@@ -92,7 +99,7 @@ fn settle(alloc: Global, book: &mut Book, by: By, look: Snapshot)
 }
 
 // Commits the decision on what was taken up, or refuses it where memory is wanting for that.
-fn commit(alloc: Global, book: &mut Book, by: By, look: Snapshot)
+fn commit<K: Keeper>(alloc: Global, book: &mut Book<K>, by: By, look: Snapshot)
     requires seat { by.seat ≡ look.seat }
     requires looked { IsLookAt book.old.journal look }
     requires decidable { CanDecide look }
@@ -112,7 +119,7 @@ fn commit(alloc: Global, book: &mut Book, by: By, look: Snapshot)
 }
 
 // Decides on what was taken up and commits that. It is false where memory is wanting, and all is as it was.
-fn commit_decision(alloc: Global, book: &mut Book, by: By, look: Snapshot) -> bool
+fn commit_decision<K: Keeper>(alloc: Global, book: &mut Book<K>, by: By, look: Snapshot) -> bool
     requires seat { by.seat ≡ look.seat }
     requires looked { IsLookAt book.old.journal look }
     requires decidable { CanDecide look }

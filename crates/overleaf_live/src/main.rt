@@ -1,6 +1,7 @@
 //! `overleaf_live`: reads a script from standard input and writes the report of its journal to standard output.
 #![tactic(auto)]
 
+use keeper::SureKeeper;
 use session_runner::run_alone;
 use source_sink::{StdSink, StdSource};
 use std::alloc::{AllocError, Global};
@@ -24,7 +25,9 @@ fn main(rt: HostRuntime) -> ExitCode {
     };
     let mut input = StdSource::new(rt.stdin());
     let mut out = StdSink::new(rt.stdout());
-    ExitCode::from(run_alone(alloc, &words, &mut input, &mut out))
+    let keeper = SureKeeper::new(alloc);
+    let ended = run_alone(alloc, &words, &mut input, &mut out, keeper);
+    ExitCode::from(ended.status)
 }
 
 // The words behind the program's name.

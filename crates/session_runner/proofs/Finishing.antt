@@ -18,11 +18,11 @@ use Rattle.book.specs.declared.faults.Prepared.{Prepared}
 use Rattle.session_runner.specs.declared.driver.Driver.{Driver}
 use Rattle.session_runner.specs.Holding.{AreHeld, IsDriver, Stands, kept, kept_in, preparation_of}
 use Rattle.session_runner.proofs.Apart.{not_this}
-use Rattle.dispatcher.proofs.Holding.{still_holds, still_stale}
+use Rattle.book.proofs.Taken.{still_holds, still_stale}
 use Rattle.session_runner.proofs.Holding.{given_up, held_own, of_another, one_more}
 use Rattle.session_runner.proofs.Lines.{declined}
 
-module _ (line : Option ℕ) (session : ℕ) (driver : Driver) (p : Prepared) (is : IsDriver driver) (lt : session < length driver.holds.items) (at : slice_get driver.holds.items session ≡ Some (Some p)) where
+module _ (line : Option ℕ) (session : ℕ) {K : Type 0} (driver : Driver K) (p : Prepared) (is : IsDriver driver) (lt : session < length driver.holds.items) (at : slice_get driver.holds.items session ≡ Some (Some p)) where
   abbrev j : List Entry
   j = driver.book.journal
 
@@ -47,11 +47,11 @@ module _ (line : Option ℕ) (session : ℕ) (driver : Driver) (p : Prepared) (i
     mid_is = ap (λ (b : Shown). b.journal) commits
 
     pub may_release : Holds 0 p.look.doc p.look.token mid.journal
-    may_release = still_holds 0 p.look.doc p.look.token p.look.ticket outcome line p.look.doc p.look.token j mid.journal mid_is 0 (held_own p.look.doc p.look.token j stands.last stands.last_is stands.own none)
+    may_release = still_holds 0 line (Committed p.look.doc p.look.token p.look.ticket outcome) p.look.doc p.look.token j mid.journal mid_is (λ o. refl) refl 0 (held_own p.look.doc p.look.token j stands.last stands.last_is stands.own none)
 
     pub not_stale : (s : Stale) → staleness p.look.doc p.look.token mid.journal ≡ Some s → ⊥
     not_stale s e =
-        let clash : None ≡ Some s = sym none ∙ sym (still_stale 0 p.look.doc p.look.token p.look.ticket outcome line p.look.doc p.look.token j mid.journal mid_is) ∙ e in cc
+        let clash : None ≡ Some s = sym none ∙ sym (still_stale 0 line (Committed p.look.doc p.look.token p.look.ticket outcome) p.look.doc p.look.token j mid.journal mid_is (λ o. refl) refl) ∙ e in cc
 
     module _ (new : Shown) (releases : new ≡ adds mid 0 line (Released p.look.doc p.look.token ∷ [])) where
       abbrev released : Act

@@ -104,7 +104,7 @@ drains_named by session doc name first mid last stop named some drains is =
     subst (λ o. DrainsNamed by Alone session o first last) (sym named) (drains_so_many by session doc (length (waiting doc first)) first mid last stop some drains is)
 
 -- ---- a book with one entry more
-module _ (driver : Driver) (new : Shown) (line : Option ℕ) where
+module _ {K : Type 0} (driver : Driver K) (new : Shown) (line : Option ℕ) where
   pub added : (act : Act) → is_of_none act ≡ true → ((d : ℕ) → cached_by d act true ≡ true) → ((t : ℕ) → is_in t (used_by act) ≡ false) → IsDriver driver → new ≡ adds driver.book 0 line (act ∷ []) → IsDriver (record driver { book = new })
   added act of_none caches unused was is = record {
     alone = ap (λ (b : Shown). b.drivers) is ∙ was.alone;
@@ -135,13 +135,13 @@ raw_apart : (op : Result (List Comp) FormFault) (now : ℕ) (u : RawUpdate) (fro
 raw_apart (Ok op) now u from = refl
 raw_apart (Err fault) now u from = refl
 
-pub sent : (driver : Driver) (new : Shown) (line : Option ℕ) (now : ℕ) (u : RawUpdate) → IsDriver driver → new ≡ adds driver.book 0 line (raw_act now u ∷ []) → IsDriver (record driver { book = new })
+pub sent : {K : Type 0} (driver : Driver K) (new : Shown) (line : Option ℕ) (now : ℕ) (u : RawUpdate) → IsDriver driver → new ≡ adds driver.book 0 line (raw_act now u ∷ []) → IsDriver (record driver { book = new })
 sent driver new line now u = added driver new line (raw_act now u) (raw_of_none u.op now u) (raw_caches u.op now u) (raw_uses u.op now u)
 
-pub made : (driver : Driver) (new : Shown) (line : Option ℕ) (doc : ℕ) (name project first : List ℕ) (base : ℕ) → IsDriver driver → new ≡ adds driver.book 0 line (Made doc name project first base ∷ []) → IsDriver (record driver { book = new })
+pub made : {K : Type 0} (driver : Driver K) (new : Shown) (line : Option ℕ) (doc : ℕ) (name project first : List ℕ) (base : ℕ) → IsDriver driver → new ≡ adds driver.book 0 line (Made doc name project first base ∷ []) → IsDriver (record driver { book = new })
 made driver new line doc name project first base = added driver new line (Made doc name project first base) refl (λ d. same_if (doc == d)) (λ t. refl)
 
-pub ticked : (driver : Driver) (new : Shown) (line : Option ℕ) (ms : ℕ) → IsDriver driver → new ≡ adds driver.book 0 line (Ticked ms ∷ []) → IsDriver (record driver { book = new })
+pub ticked : {K : Type 0} (driver : Driver K) (new : Shown) (line : Option ℕ) (ms : ℕ) → IsDriver driver → new ≡ adds driver.book 0 line (Ticked ms ∷ []) → IsDriver (record driver { book = new })
 ticked driver new line ms = added driver new line (Ticked ms) refl (λ d. refl) (λ t. refl)
 
 -- ---- behind a line
@@ -214,14 +214,14 @@ kept_none holds all = λ i s. each s (slice_get holds s) refl i
     each s None at = ap (option_and_then kept) at
     each s (Some o) at = ap (option_and_then kept) (at ∙ ap (λ x. Some x) (at_none holds all s o at))
 
-pub empty_driver : (driver : Driver) → driver.book ≡ record { journal = []; drivers = 0 } → All (λ k. k ≡ None) driver.holds.items → ((c : ℕ) (x : Numbered) → slice_get driver.clients.items c ≡ Some x → x ≡ record { client = c; now = away }) → length driver.clients.items ≡ length driver.holds.items → IsDriver driver
+pub empty_driver : {K : Type 0} (driver : Driver K) → (driver.book.journal ≡ []) × (driver.book.drivers ≡ 0) → All (λ k. k ≡ None) driver.holds.items → ((c : ℕ) (x : Numbered) → slice_get driver.clients.items c ≡ Some x → x ≡ record { client = c; now = away }) → length driver.clients.items ≡ length driver.holds.items → IsDriver driver
 empty_driver driver book all aways many = record {
-  alone = ap (λ (b : Shown). b.drivers) book;
+  alone = book.1;
   held = record {
     stands = λ session p at. let e = at_none driver.holds.items all session (Some p) at in absurd (cc);
     apart = λ one other p q differ at other_at. let e = at_none driver.holds.items all one (Some p) at in absurd (cc);
   };
-  clients = record { each = λ c x at. (let is = aways c x at in (ap (λ (y : Numbered). y.client) is, ap (λ (y : Numbered). y.now) is ∙ sym (ap (client x.client) (ap (λ (b : Shown). b.journal) book) ∙ client-none x.client))) };
+  clients = record { each = λ c x at. (let is = aways c x at in (ap (λ (y : Numbered). y.client) is, ap (λ (y : Numbered). y.now) is ∙ sym (ap (client x.client) book.0 ∙ client-none x.client))) };
   many = many;
 }
 

@@ -119,7 +119,7 @@ pub own_act : (left last : Shown) (seat number session : ℕ) (line : Option ℕ
 own_act left last seat number session line act seat_is same is = subst (λ n. last ≡ adds left n line (act session ∷ [])) seat_is (subst (λ n. last ≡ adds left seat line (act n ∷ [])) same is)
 
 -- ---- the driver behind a session's own entries
-pub own_driver : (driver now : Driver) (session : ℕ) (was is : Numbered) → IsDriver driver → slice_get driver.clients.items session ≡ Some was → now.holds ≡ driver.holds → now.clients.items ≡ slice_set driver.clients.items session is
+pub own_driver : {K : Type 0} (driver now : Driver K) (session : ℕ) (was is : Numbered) → IsDriver driver → slice_get driver.clients.items session ≡ Some was → now.holds ≡ driver.holds → now.clients.items ≡ slice_set driver.clients.items session is
     → now.book.drivers ≡ driver.book.drivers → GoesQuietly session driver.book.journal now.book.journal → IsClientAfter now.book.journal was is → IsDriver now
 own_driver driver now session was is stood at holds set drivers g after = record {
   alone = drivers ∙ stood.alone;
@@ -128,7 +128,7 @@ own_driver driver now session was is stood at holds set drivers g after = record
   many = ap length set ∙ length-set driver.clients.items session is ∙ stood.many ∙ ap (λ (v : _). length v.items) (sym holds);
 }
 
-pub synced_driver : (driver now : Driver) (session : ℕ) (was is : Numbered) → IsDriver driver → slice_get driver.clients.items session ≡ Some was → now.holds ≡ driver.holds → now.clients.items ≡ slice_set driver.clients.items session is
+pub synced_driver : {K : Type 0} (driver now : Driver K) (session : ℕ) (was is : Numbered) → IsDriver driver → slice_get driver.clients.items session ≡ Some was → now.holds ≡ driver.holds → now.clients.items ≡ slice_set driver.clients.items session is
     → now.book.drivers ≡ driver.book.drivers → GoesApartThenQuietly (next_token driver.book.journal) session driver.book.journal now.book.journal → IsClientAfter now.book.journal was is → IsDriver now
 synced_driver driver now session was is stood at holds set drivers g after =
     let left = driver.book.journal in

@@ -80,49 +80,49 @@ fault_text (Unknown n) = line_text n (codes "unknown")
 fault_text (Unbuilt n) = line_text n (codes "unbuilt")
 
 -- a run that is to be reported has the sessions' names, and a client for each as the journal has it
-pub record IsReady (bytes : List ℕ) (run : Run) : Type 0 where
+pub record IsReady {K : Type 0} (bytes : List ℕ) (run : Run K) : Type 0 where
   pub names_are : run.names ≡ names_of bytes
   pub clients : AreClientsOf run.clients.items run.book.journal
   pub many : length run.clients.items ≡ length run.names
   pub few : length run.names < 2 ^ 32
 
 -- what telling it asks
-abbrev pub CanBeTold : Ending → Type 0
+abbrev pub CanBeTold : {K : Type 0} → Ending K → Type 0
 CanBeTold (ending.Done run) = AreClientsOf run.clients.items run.book.journal × (length run.clients.items ≡ length run.names) × (length run.names < 2 ^ 32)
 CanBeTold _ = ⊤
 
 -- how a whole input ends
-abbrev pub EndsAs : List ℕ → Ending → Type 0
-EndsAs bytes ending.Words = ⊥
-EndsAs bytes ending.Read = ⊥
-EndsAs bytes ending.Long = ⊥
-EndsAs bytes ending.Memory = ⊤
-EndsAs bytes (ending.Script fault) = line_fault bytes ≡ Some fault
+abbrev pub EndsAs : {K : Type 0} → List ℕ → Ending K → Type 0
+EndsAs bytes (ending.Words keeper) = ⊥
+EndsAs bytes (ending.Read keeper) = ⊥
+EndsAs bytes (ending.Long keeper) = ⊥
+EndsAs bytes (ending.Memory keeper) = ⊤
+EndsAs bytes (ending.Script fault keeper) = line_fault bytes ≡ Some fault
 EndsAs bytes (ending.Done run) = IsRun bytes run.book.journal × IsReady bytes run
 
 -- why a run ends so. Where memory was wanting no more than the limit was taken
-abbrev pub Explains : List (String Global) → Passed → Ending → Type 0
-Explains words input ending.Words = (¬ AreRun words) × Keeps input.before input.after
-Explains words input ending.Read = AreRun words × ((bytes : List ℕ) × WasBroken input bytes)
-Explains words input ending.Long = AreRun words × ((bytes : List ℕ) × WasLong input bytes)
-Explains words input ending.Memory = AreRun words × ((bytes : List ℕ) × Consumes input.before input.after bytes × (length bytes ≤ INPUT_LIMIT))
-Explains words input (ending.Script fault) = AreRun words × ((bytes : List ℕ) × WasWhole input bytes × (line_fault bytes ≡ Some fault))
+abbrev pub Explains : {K : Type 0} → List (String Global) → Passed → Ending K → Type 0
+Explains words input (ending.Words keeper) = (¬ AreRun words) × Keeps input.before input.after
+Explains words input (ending.Read keeper) = AreRun words × ((bytes : List ℕ) × WasBroken input bytes)
+Explains words input (ending.Long keeper) = AreRun words × ((bytes : List ℕ) × WasLong input bytes)
+Explains words input (ending.Memory keeper) = AreRun words × ((bytes : List ℕ) × Consumes input.before input.after bytes × (length bytes ≤ INPUT_LIMIT))
+Explains words input (ending.Script fault keeper) = AreRun words × ((bytes : List ℕ) × WasWhole input bytes × (line_fault bytes ≡ Some fault))
 Explains words input (ending.Done run) = AreRun words × ((bytes : List ℕ) × WasWhole input bytes × IsRun bytes run.book.journal × IsReady bytes run)
 
-abbrev pub status_of : Ending → ℕ
-status_of ending.Words = 2
-status_of ending.Read = 5
-status_of ending.Long = 8
-status_of ending.Memory = 4
-status_of (ending.Script fault) = 3
+abbrev pub status_of : {K : Type 0} → Ending K → ℕ
+status_of (ending.Words keeper) = 2
+status_of (ending.Read keeper) = 5
+status_of (ending.Long keeper) = 8
+status_of (ending.Memory keeper) = 4
+status_of (ending.Script fault keeper) = 3
 status_of (ending.Done run) = 0
 
-abbrev pub text_of : Ending → List ℕ
-text_of ending.Words = codes "fault: words\n"
-text_of ending.Read = codes "fault: read\n"
-text_of ending.Long = codes "fault: input longer than 16777216\n"
-text_of ending.Memory = []
-text_of (ending.Script fault) = fault_text fault
+abbrev pub text_of : {K : Type 0} → Ending K → List ℕ
+text_of (ending.Words keeper) = codes "fault: words\n"
+text_of (ending.Read keeper) = codes "fault: read\n"
+text_of (ending.Long keeper) = codes "fault: input longer than 16777216\n"
+text_of (ending.Memory keeper) = []
+text_of (ending.Script fault keeper) = fault_text fault
 text_of (ending.Done run) = report_of run.names run.book.journal
 
 -- a part of a text, from its front on, was written
@@ -130,24 +130,24 @@ abbrev pub IsPart : Passed → List ℕ → Type 0
 IsPart out text = (k : ℕ) × (k ≤ length text) × Appends out.before out.after (take k text)
 
 -- what may be written where memory is wanting: a part of the report, and else nothing
-abbrev pub IsPartOfReport : Ending → Passed → Type 0
+abbrev pub IsPartOfReport : {K : Type 0} → Ending K → Passed → Type 0
 IsPartOfReport (ending.Done run) out = IsPart out (report_of run.names run.book.journal)
 IsPartOfReport _ out = Appends out.before out.after []
 
 -- endings for which memory may be wanting as they are told
-abbrev pub TakesMemory : Ending → Type 0
-TakesMemory ending.Words = ⊥
-TakesMemory ending.Read = ⊥
-TakesMemory ending.Long = ⊥
+abbrev pub TakesMemory : {K : Type 0} → Ending K → Type 0
+TakesMemory (ending.Words keeper) = ⊥
+TakesMemory (ending.Read keeper) = ⊥
+TakesMemory (ending.Long keeper) = ⊥
 TakesMemory _ = ⊤
 
 -- endings that have something to write
-abbrev pub IsWriting : Ending → Type 0
-IsWriting ending.Memory = ⊥
+abbrev pub IsWriting : {K : Type 0} → Ending K → Type 0
+IsWriting (ending.Memory keeper) = ⊥
 IsWriting _ = ⊤
 
 -- the text was written and the status is its own; or the sink failed and the status is 6; or memory was wanting and it is 4
-abbrev pub IsTold : Passed → Ending → ℕ → Type 0
+abbrev pub IsTold : {K : Type 0} → Passed → Ending K → ℕ → Type 0
 IsTold out end status =
     ((status ≡ status_of end) × Appends out.before out.after (text_of end))
     ⊎ ((status ≡ 6) × MayFail out × IsWriting end × IsPart out (text_of end))

@@ -40,7 +40,7 @@ pub record AreHeld (holds : List (Option Prepared)) (journal : List Entry) : Typ
   pub apart : (one other : ℕ) (p q : Prepared) → one ≢ other → slice_get holds one ≡ Some (Some p) → slice_get holds other ≡ Some (Some q) → p.look.token ≢ q.look.token
 
 -- a driver's book has no other drivers, what sessions keep stands, and each session has its client
-pub record IsDriver (driver : Driver) : Type 0 where
+pub record IsDriver {K : Type 0} (driver : Driver K) : Type 0 where
   pub alone : driver.book.drivers ≡ 0
   pub held : AreHeld driver.holds.items driver.book.journal
   pub clients : AreClientsOf driver.clients.items driver.book.journal

@@ -22,6 +22,7 @@ use book::{Book, By};
 use dispatcher::{DrainEnd, drain};
 use expiring_lock::LOCK_LIFE;
 use journal_rules::ClientState;
+use keeper::Keeper;
 use share_client::{SendFault, ShareClient};
 use std::alloc::{AllocError, Global};
 
@@ -36,9 +37,9 @@ const MAX_ROUNDS: u32 = 3;
 
 /// Ends a run of one driver that did its lines, whose sessions have these clients. The only error is
 /// want of memory.
-pub(crate) fn end_run(
+pub(crate) fn end_run<K: Keeper>(
     alloc: Global,
-    book: &mut Book,
+    book: &mut Book<K>,
     clients: &mut Vec<ShareClient>,
 ) -> Result<(), AllocError>
     requires drivers { book.old.drivers ≡ 0 }
@@ -56,9 +57,9 @@ pub(crate) fn end_run(
 }
 
 // Goes at most three rounds, as long as one is needed.
-fn go_rounds(
+fn go_rounds<K: Keeper>(
     alloc: Global,
-    book: &mut Book,
+    book: &mut Book<K>,
     clients: &mut Vec<ShareClient>,
 ) -> Result<(), AllocError>
     requires free { (doc : ℕ) → busy doc book.old.journal ≡ None }
@@ -80,7 +81,7 @@ fn go_rounds(
 }
 
 // Whether a further round is needed.
-fn needs_round(book: &Book, clients: &Vec<ShareClient>) -> bool
+fn needs_round<K: Keeper>(book: &Book<K>, clients: &Vec<ShareClient>) -> bool
     requires { AreClientsOf clients.now.items book.now.journal }
     ensures { result ≡ needs_round_lem (length clients.now.items) book.now.journal }
 {
@@ -88,7 +89,7 @@ fn needs_round(book: &Book, clients: &Vec<ShareClient>) -> bool
 }
 
 // Whether an update waits for some document.
-fn any_waits(book: &Book) -> bool
+fn any_waits<K: Keeper>(book: &Book<K>) -> bool
     ensures { result ≡ any_below (λ doc. has_any (waiting doc book.now.journal)) (length (makings book.now.journal)) }
 {
     let docs = book.docs();
@@ -101,7 +102,7 @@ fn any_waits(book: &Book) -> bool
 }
 
 // Whether a client is unfinished.
-fn any_unfinished(book: &Book, clients: &Vec<ShareClient>) -> bool
+fn any_unfinished<K: Keeper>(book: &Book<K>, clients: &Vec<ShareClient>) -> bool
     requires { AreClientsOf clients.now.items book.now.journal }
     ensures { result ≡ any_below (λ c. is_unfinished_lem c book.now.journal) (length clients.now.items) }
 {
@@ -114,7 +115,7 @@ fn any_unfinished(book: &Book, clients: &Vec<ShareClient>) -> bool
 }
 
 // Whether a client is joined, and has mail, an operation in flight or something pending.
-fn is_unfinished(book: &Book, client: &ShareClient) -> bool
+fn is_unfinished<K: Keeper>(book: &Book<K>, client: &ShareClient) -> bool
     requires { IsClientOf book.now.journal client.now }
     ensures { result ≡ is_unfinished_lem client.now.client book.now.journal }
 {
@@ -131,7 +132,7 @@ fn is_joined(client: &ShareClient) -> bool
 }
 
 // Drains each document in order.
-fn drain_all(alloc: Global, book: &mut Book) -> Result<(), AllocError>
+fn drain_all<K: Keeper>(alloc: Global, book: &mut Book<K>) -> Result<(), AllocError>
     requires free { (doc : ℕ) → busy doc book.old.journal ≡ None }
     ensures drains { OnOk result (InOrder DrainsDry (length (makings book.old.journal)) book.old.journal book.new.journal) }
     ensures free { OnOk result ((doc : ℕ) → busy doc book.new.journal ≡ None) }
@@ -145,7 +146,7 @@ fn drain_all(alloc: Global, book: &mut Book) -> Result<(), AllocError>
 }
 
 // Drains a document until nothing waits.
-fn drain_dry(alloc: Global, book: &mut Book, doc: u32) -> Result<(), AllocError>
+fn drain_dry<K: Keeper>(alloc: Global, book: &mut Book<K>, doc: u32) -> Result<(), AllocError>
     requires made { IsMade doc book.old.journal }
     requires free { (doc : ℕ) → busy doc book.old.journal ≡ None }
     ensures dry { OnOk result (DrainsDry doc book.old.journal book.new.journal) }
@@ -164,7 +165,10 @@ fn drain_dry(alloc: Global, book: &mut Book, doc: u32) -> Result<(), AllocError>
 }
 
 // Each client catches up, in order.
-fn catch_up_all(book: &mut Book, clients: &mut Vec<ShareClient>) -> Result<(), AllocError>
+fn catch_up_all<K: Keeper>(
+    book: &mut Book<K>,
+    clients: &mut Vec<ShareClient>,
+) -> Result<(), AllocError>
     requires free { (doc : ℕ) → busy doc book.old.journal ≡ None }
     requires clients { AreClientsOf clients.old.items book.old.journal }
     ensures catches { OnOk result (InOrder CatchesUp (length clients.old.items) book.old.journal book.new.journal) }
@@ -179,7 +183,7 @@ fn catch_up_all(book: &mut Book, clients: &mut Vec<ShareClient>) -> Result<(), A
 }
 
 // A client that is joined gets all of its mail, and then sends.
-fn catch_up(book: &mut Book, client: &mut ShareClient) -> Result<(), AllocError>
+fn catch_up<K: Keeper>(book: &mut Book<K>, client: &mut ShareClient) -> Result<(), AllocError>
     requires { IsClientOf book.old.journal client.old }
     ensures catches { OnOk result (CatchesUp client.old.client book.old.journal book.new.journal) }
     ensures client { OnOk result (IsClientAfter book.new.journal client.old client.new) }
@@ -194,7 +198,7 @@ fn catch_up(book: &mut Book, client: &mut ShareClient) -> Result<(), AllocError>
 
 // A client sends again what is in flight, or else what is pending. It sends nothing where it isn't
 // joined any more or has nothing to send.
-fn send_own(book: &mut Book, client: &mut ShareClient) -> Result<(), AllocError>
+fn send_own<K: Keeper>(book: &mut Book<K>, client: &mut ShareClient) -> Result<(), AllocError>
     requires { IsClientOf book.old.journal client.old }
     ensures sends { OnOk result (book.new.journal ≡ book.old.journal ++ map at_end (sending_acts client.old.client book.old.journal)) }
     ensures client { IsClientAfter book.new.journal client.old client.new }

@@ -20,7 +20,6 @@ ghost use Rattle.session_runner.specs.Syncing.{GoesApartThenQuietly};
 ghost use Rattle.share_client.specs.Clients.{Numbered};
 ghost use Rattle.client_lines.specs.Lines.{IsDoable, client_act};
 ghost use Rattle.journal_rules.specs.Client.{away as away_lem};
-ghost use Rattle.session_runner.specs.declared.driver.Left.{Left};
 ghost use Rattle.std.specs.Global.{Vec};
 ghost use Rattle.session_runner.specs.Fitting.{AreBuilt, AreFit, IsFit, is_built};
 ghost use Rattle.session_runner.specs.Holding.{IsDriver, kept_in};
@@ -32,6 +31,7 @@ use book::{
 use client_lines::{ClientLine, join_named};
 use dispatcher::{DrainEnd, drain, prepare};
 use journal_entries::Why;
+use keeper::Keeper;
 use ot_units::{Name, Units};
 use session_lines::Line;
 use share_client::{Edit, ShareClient};
@@ -40,61 +40,81 @@ use std::alloc::{AllocError, Global};
 /// The book of a run, what each session keeps from a `hold` to its next `finish`, and each session's
 /// client, by the sessions' numbers.
 #[derive(Drop)]
-pub(crate) struct Driver {
-    pub book: Book,
+pub(crate) struct Driver<K: Keeper> {
+    pub book: Book<K>,
     pub holds: Vec<Option<Prepared>>,
     pub clients: Vec<ShareClient>,
 }
 
 /// What a run's lines leave: its book, and the clients of its sessions.
 #[derive(Drop)]
-pub(crate) struct Left {
-    pub book: Book,
+pub(crate) struct Left<K: Keeper> {
+    pub book: Book<K>,
     pub clients: Vec<ShareClient>,
 }
 
-/// Does the lines in order, from line 1 on, and gives the book and the clients back. Sessions keep
-/// nothing at first, and no client has joined.
-pub(crate) fn do_lines(alloc: Global, lines: Vec<Line>, sessions: u32) -> Result<Left, AllocError>
+/// Does the lines in order, from line 1 on, over a keeper, and gives the book and the clients back.
+/// Sessions keep nothing at first, and no client has joined. Where memory is wanting the keeper alone is
+/// given back.
+pub(crate) fn do_lines<K: Keeper>(
+    alloc: Global,
+    keeper: K,
+    lines: Vec<Line>,
+    sessions: u32,
+) -> Result<Left<K>, K>
     requires fit { AreFit [] lines.items }
     requires built { AreBuilt lines.items }
     requires numbered { AreBySessions sessions lines.items }
     requires slow { sum_by moved_by lines.items ≤ clock_end }
     requires few { length lines.items < 2 ^ 32 - 1 }
-    ensures leads { IfOk result (λ (left : Left). Leads 0 Alone (numbered 1 lines.items) nothing_kept [] left.book.journal) }
-    ensures drivers { IfOk result (λ (left : Left). left.book.drivers ≡ 0) }
-    ensures clock { IfOk result (λ (left : Left). clock left.book.journal ≡ sum_by moved_by lines.items) }
-    ensures closed { IfOk result (λ (left : Left). closed left.book.journal ≡ []) }
-    ensures clients { IfOk result (λ (left : Left). AreClientsOf left.clients.items left.book.journal) }
-    ensures many { IfOk result (λ (left : Left). length left.clients.items ≡ sessions) }
+    ensures leads { IfOk result (λ left. Leads 0 Alone (numbered 1 lines.items) nothing_kept [] left.book.journal) }
+    ensures drivers { IfOk result (λ left. left.book.drivers ≡ 0) }
+    ensures clock { IfOk result (λ left. clock left.book.journal ≡ sum_by moved_by lines.items) }
+    ensures closed { IfOk result (λ left. closed left.book.journal ≡ []) }
+    ensures clients { IfOk result (λ left. AreClientsOf left.clients.items left.book.journal) }
+    ensures many { IfOk result (λ left. length left.clients.items ≡ sessions) }
 {
-    let mut driver = Driver::new(alloc, sessions)?;
+    let mut driver = Driver::new(alloc, keeper, sessions)?;
     let mut number = 1;
     for line in lines {
-        driver.do_line(alloc, number, line)?;
+        let Ok(()) = driver.do_line(alloc, number, line) else {
+            return Err(driver.into_keeper());
+        };
         number += 1;
     }
     let Driver { book, clients, .. } = driver;
     Ok(Left { book, clients })
 }
 
-impl Driver {
-    // The driver of an empty book, of so many sessions that keep nothing.
-    fn new(alloc: Global, sessions: u32) -> Result<Driver, AllocError>
-        ensures book { IfOk result (λ driver. driver.book ≡ record { journal = []; drivers = 0 }) }
+impl<K: Keeper> Driver<K> {
+    // The driver of an empty book over a keeper, of so many sessions that keep nothing. Where memory is
+    // wanting the keeper is given back.
+    fn new(alloc: Global, keeper: K, sessions: u32) -> Result<Driver<K>, K>
+        ensures book { IfOk result (λ driver. driver.book ≡ record { journal = []; drivers = 0; documents = K.documents keeper; faults = K.count keeper; start = K.count keeper }) }
         ensures sessions { IfOk result (λ driver. length driver.holds.items ≡ sessions) }
         ensures nothing { IfOk result (λ driver. All (λ kept. kept ≡ None) driver.holds.items) }
         ensures many { IfOk result (λ driver. length driver.clients.items ≡ sessions) }
         ensures away { IfOk result (λ driver. (c : ℕ) (x : Numbered) → slice_get driver.clients.items c ≡ Some x → x ≡ record { client = c; now = away_lem }) }
     {
-        let book = Book::new(alloc, 0)?;
-        let holds = no_holds(alloc, sessions)?;
-        let clients = away_clients(alloc, sessions)?;
-        Ok(Driver {
-            book,
-            holds,
-            clients,
-        })
+        let (Ok(holds), Ok(clients)) = (no_holds(alloc, sessions), away_clients(alloc, sessions))
+        else {
+            return Err(keeper);
+        };
+        match Book::new(alloc, keeper, 0) {
+            Ok(book) => Ok(Driver {
+                book,
+                holds,
+                clients,
+            }),
+            Err((_, keeper)) => Err(keeper),
+        }
+    }
+
+    // The keeper of the book.
+    fn into_keeper(self) -> K {
+        let Driver { book, .. } = self;
+        let (keeper, _journal) = book.ended();
+        keeper
     }
 
     // Does the line of this number.
@@ -282,6 +302,7 @@ impl Driver {
             Err(AcquireFault::Busy(busy)) => self.book.decline(by, session, Why::Busy(busy)),
             Err(AcquireFault::Memory) => Err(AllocError),
             Err(AcquireFault::NoDoc) => unreachable!(),
+            Err(AcquireFault::Uncached) => unreachable!(),
         }
     }
 
@@ -366,8 +387,8 @@ fn give_up(holds: &mut Vec<Option<Prepared>>, session: u32) -> Option<Prepared>
 }
 
 // Makes a document, whose name is new.
-fn make(
-    book: &mut Book,
+fn make<K: Keeper>(
+    book: &mut Book<K>,
     by: By,
     name: &Name,
     project: &Name,
@@ -388,7 +409,7 @@ fn make(
 }
 
 /// The clock goes on, which doesn't come to its end.
-pub(crate) fn tick(book: &mut Book, by: By, ms: u64) -> Result<(), AllocError>
+pub(crate) fn tick<K: Keeper>(book: &mut Book<K>, by: By, ms: u64) -> Result<(), AllocError>
     requires { clock book.old.journal + ms ≤ clock_end }
     ensures { OnOk result (book.new ≡ adds book.old by.seat by.line (Ticked ms ∷ [])) }
 {
@@ -400,7 +421,7 @@ pub(crate) fn tick(book: &mut Book, by: By, ms: u64) -> Result<(), AllocError>
 }
 
 // Sends a raw update to a document that was made.
-fn send_raw(book: &mut Book, by: By, raw: &RawUpdate) -> Result<(), AllocError>
+fn send_raw<K: Keeper>(book: &mut Book<K>, by: By, raw: &RawUpdate) -> Result<(), AllocError>
     requires made { IsMade raw.now.doc book.old.journal }
     requires source { raw.now.source ≤ 999999 }
     requires within { IfOk raw.now.op IsRaw }
@@ -414,9 +435,9 @@ fn send_raw(book: &mut Book, by: By, raw: &RawUpdate) -> Result<(), AllocError>
 }
 
 // Drains as many updates of the document of a name as wait for it, or says why it can't.
-fn drain_named(
+fn drain_named<K: Keeper>(
     alloc: Global,
-    book: &mut Book,
+    book: &mut Book<K>,
     number: u32,
     session: u32,
     name: &Name,

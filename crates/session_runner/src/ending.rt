@@ -11,12 +11,12 @@ ghost use Rattle.session_runner.specs.Ending.{AreRun, CanBeTold, EndsAs, Explain
 ghost use Rattle.session_runner.specs.Fitting.{AreBuilt, AreFit, is_built as is_built_lem};
 ghost use Rattle.session_runner.specs.Passing.{passed};
 ghost use Rattle.session_runner.specs.Clients.{AreClientsOf};
-ghost use Rattle.session_runner.specs.declared.driver.Left.{Left};
 
 use crate::closing::end_run;
 use crate::driver::{Left, do_lines};
 use crate::report::{WriteFault, write_report};
 use book::Book;
+use keeper::Keeper;
 use session_lines::{Line, Names, Script, ScriptFault, read_script};
 use share_client::ShareClient;
 use source_sink::{ReadFault, Sink, Source, read_all, write_all};
@@ -35,37 +35,42 @@ pub(crate) enum LineFault {
     Unbuilt(u64),
 }
 
-/// How a run ends before anything is written.
+/// How a run ends before anything is written, with its keeper.
 #[derive(Drop)]
-pub(crate) enum Ending {
-    Words,
-    Read,
-    Long,
-    Memory,
-    Script(LineFault),
-    Done(Run),
+pub(crate) enum Ending<K: Keeper> {
+    Words(K),
+    Read(K),
+    Long(K),
+    Memory(K),
+    Script(LineFault, K),
+    Done(Run<K>),
 }
 
 /// A run that was done: its book, and its sessions' clients and names, by their numbers.
 #[derive(Drop)]
-pub(crate) struct Run {
-    pub book: Book,
+pub(crate) struct Run<K: Keeper> {
+    pub book: Book<K>,
     pub clients: Vec<ShareClient>,
     pub names: Names,
 }
 
-/// Reads the input, where the words are in form, and does its lines.
-pub(crate) fn prepare<S: Source>(alloc: Global, words: &[String], input: &mut S) -> Ending
+/// Reads the input, where the words are in form, and does its lines over a keeper.
+pub(crate) fn prepare<S: Source, K: Keeper>(
+    alloc: Global,
+    words: &[String],
+    input: &mut S,
+    keeper: K,
+) -> Ending<K>
     ensures { Explains words.now (passed S.left S.count input.old input.new) result }
 {
     if !are_run(words) {
-        return Ending::Words;
+        return Ending::Words(keeper);
     }
     match read_all(alloc, input) {
-        Ok(bytes) => ending_of(alloc, &bytes),
-        Err(ReadFault::Failed) => Ending::Read,
-        Err(ReadFault::TooLong) => Ending::Long,
-        Err(ReadFault::Memory) => Ending::Memory,
+        Ok(bytes) => ending_of(alloc, &bytes, keeper),
+        Err(ReadFault::Failed) => Ending::Read(keeper),
+        Err(ReadFault::TooLong) => Ending::Long(keeper),
+        Err(ReadFault::Memory) => Ending::Memory(keeper),
     }
 }
 
@@ -79,32 +84,32 @@ fn are_run(words: &[String]) -> bool
     }
 }
 
-fn ending_of(alloc: Global, bytes: &[u8]) -> Ending
+fn ending_of<K: Keeper>(alloc: Global, bytes: &[u8], keeper: K) -> Ending<K>
     requires { length bytes.now ≤ 16777216 }
     ensures { EndsAs bytes.now result }
 {
     let script = match read_script(alloc, bytes) {
         Ok(script) => script,
-        Err(ScriptFault::Json(n)) => return Ending::Script(LineFault::Json(n)),
-        Err(ScriptFault::Form(n)) => return Ending::Script(LineFault::Form(n)),
-        Err(ScriptFault::Unknown(n)) => return Ending::Script(LineFault::Unknown(n)),
-        Err(ScriptFault::Memory) => return Ending::Memory,
+        Err(ScriptFault::Json(n)) => return Ending::Script(LineFault::Json(n), keeper),
+        Err(ScriptFault::Form(n)) => return Ending::Script(LineFault::Form(n), keeper),
+        Err(ScriptFault::Unknown(n)) => return Ending::Script(LineFault::Unknown(n), keeper),
+        Err(ScriptFault::Memory) => return Ending::Memory(keeper),
     };
     if let Some(n) = first_unbuilt(script.lines.as_slice()) {
-        return Ending::Script(LineFault::Unbuilt(n));
+        return Ending::Script(LineFault::Unbuilt(n), keeper);
     }
     let Script {
         lines,
         sessions,
         names,
     } = script;
-    match run_lines(alloc, lines.into_vec(), sessions) {
+    match run_lines(alloc, keeper, lines.into_vec(), sessions) {
         Ok(Left { book, clients }) => Ending::Done(Run {
             book,
             clients,
             names,
         }),
-        Err(_) => Ending::Memory,
+        Err(keeper) => Ending::Memory(keeper),
     }
 }
 
@@ -149,38 +154,45 @@ fn is_built(line: &Line) -> bool
     )
 }
 
-fn run_lines(alloc: Global, lines: Vec<Line>, sessions: u32) -> Result<Left, AllocError>
+fn run_lines<K: Keeper>(
+    alloc: Global,
+    keeper: K,
+    lines: Vec<Line>,
+    sessions: u32,
+) -> Result<Left<K>, K>
     requires fit { AreFit [] lines.items }
     requires built { AreBuilt lines.items }
     requires numbered { AreBySessions sessions lines.items }
     requires slow { AreSlow 16777216 lines.items }
     requires few { length lines.items ≤ 16777216 }
-    ensures legal { IfOk result (λ (left : Left). IsLegal left.book.journal) }
-    ensures follows { IfOk result (λ (left : Left). FollowsUnflushed lines.items sessions left.book.journal) }
-    ensures ended { IfOk result (λ (left : Left). HasEnded left.book.journal) }
-    ensures clients { IfOk result (λ (left : Left). AreClientsOf left.clients.items left.book.journal) }
-    ensures many { IfOk result (λ (left : Left). length left.clients.items ≡ sessions) }
+    ensures legal { IfOk result (λ left. IsLegal left.book.journal) }
+    ensures follows { IfOk result (λ left. FollowsUnflushed lines.items sessions left.book.journal) }
+    ensures ended { IfOk result (λ left. HasEnded left.book.journal) }
+    ensures clients { IfOk result (λ left. AreClientsOf left.clients.items left.book.journal) }
+    ensures many { IfOk result (λ left. length left.clients.items ≡ sessions) }
 {
     let Left {
         mut book,
         mut clients,
-    } = do_lines(alloc, lines, sessions)?;
-    end_run(alloc, &mut book, &mut clients)?;
+    } = do_lines(alloc, keeper, lines, sessions)?;
+    let Ok(()) = end_run(alloc, &mut book, &mut clients) else {
+        return Err(book.ended().0);
+    };
     book.legal();
     Ok(Left { book, clients })
 }
 
 /// Writes what the ending says, and gives the status.
-pub(crate) fn tell<W: Sink>(alloc: Global, out: &mut W, ending: &Ending) -> u8
+pub(crate) fn tell<W: Sink, K: Keeper>(alloc: Global, out: &mut W, ending: &Ending<K>) -> u8
     requires { CanBeTold ending.now }
     ensures { IsTold (passed W.written W.count out.old out.new) ending.now result }
 {
     match ending {
-        Ending::Words => tell_text(out, 2, b"fault: words\n"),
-        Ending::Read => tell_text(out, 5, b"fault: read\n"),
-        Ending::Long => tell_text(out, 8, b"fault: input longer than 16777216\n"),
-        Ending::Memory => 4,
-        Ending::Script(fault) => match text_of_fault(alloc, *fault) {
+        Ending::Words(_) => tell_text(out, 2, b"fault: words\n"),
+        Ending::Read(_) => tell_text(out, 5, b"fault: read\n"),
+        Ending::Long(_) => tell_text(out, 8, b"fault: input longer than 16777216\n"),
+        Ending::Memory(_) => 4,
+        Ending::Script(fault, _) => match text_of_fault(alloc, *fault) {
             Ok(text) => tell_text(out, 3, text.as_bytes()),
             Err(_) => 4,
         },
@@ -189,6 +201,20 @@ pub(crate) fn tell<W: Sink>(alloc: Global, out: &mut W, ending: &Ending) -> u8
             Err(WriteFault::Failed) => 6,
             Err(WriteFault::Memory) => 4,
         },
+    }
+}
+
+impl<K: Keeper> Ending<K> {
+    /// The keeper, once all is told.
+    pub(crate) fn into_keeper(self) -> K {
+        match self {
+            Ending::Words(keeper) => keeper,
+            Ending::Read(keeper) => keeper,
+            Ending::Long(keeper) => keeper,
+            Ending::Memory(keeper) => keeper,
+            Ending::Script(_, keeper) => keeper,
+            Ending::Done(run) => run.book.ended().0,
+        }
     }
 }
 

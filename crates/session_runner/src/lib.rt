@@ -9,4 +9,4 @@ mod report;
 mod run;
 mod syncing;
 
-pub use run::run_alone;
+pub use run::{Ended, run_alone};

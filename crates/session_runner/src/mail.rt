@@ -7,12 +7,13 @@ ghost use Rattle.turn_rules.specs.Turns.{Alone, entry_by};
 ghost use Rattle.session_runner.specs.Clients.{GoesQuietly};
 
 use book::{Book, By};
+use keeper::Keeper;
 use share_client::ShareClient;
 use std::alloc::AllocError;
 
 /// A client gets all of its mail, one message after the other. The only error is want of memory.
-pub(crate) fn receive_all(
-    book: &mut Book,
+pub(crate) fn receive_all<K: Keeper>(
+    book: &mut Book<K>,
     client: &mut ShareClient,
     by: By,
 ) -> Result<(), AllocError>

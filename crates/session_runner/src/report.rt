@@ -15,6 +15,7 @@ use crate::ending::Run;
 use book::Book;
 use journal_entries::Entry;
 use journal_rules::ClientState;
+use keeper::Keeper;
 use ot_op::Op;
 use ot_text::doc_units;
 use ot_units::{Name, Units};
@@ -51,7 +52,11 @@ impl From<AllocError> for WriteFault {
 }
 
 /// Writes the report line by line. Its memory doesn't grow with the report.
-pub(crate) fn write_report<W: Sink>(alloc: Global, run: &Run, out: &mut W) -> Result<(), WriteFault>
+pub(crate) fn write_report<W: Sink, K: Keeper>(
+    alloc: Global,
+    run: &Run<K>,
+    out: &mut W,
+) -> Result<(), WriteFault>
     requires clients { AreClientsOf run.now.clients.items run.now.book.journal }
     requires many { length run.now.clients.items ≡ length run.now.names }
     requires few { length run.now.names < 2 ^ 32 }
@@ -64,9 +69,9 @@ pub(crate) fn write_report<W: Sink>(alloc: Global, run: &Run, out: &mut W) -> Re
     Ok(())
 }
 
-fn write_lines<W: Sink>(
+fn write_lines<W: Sink, K: Keeper>(
     alloc: Global,
-    run: &Run,
+    run: &Run<K>,
     buffer: &mut WriteBuffer,
     out: &mut W,
 ) -> Result<(), WriteFault>
@@ -100,9 +105,9 @@ fn write_entries<W: Sink>(
     Ok(())
 }
 
-fn write_documents<W: Sink>(
+fn write_documents<W: Sink, K: Keeper>(
     alloc: Global,
-    book: &Book,
+    book: &Book<K>,
     buffer: &mut WriteBuffer,
     out: &mut W,
 ) -> Result<(), WriteFault>
@@ -117,9 +122,9 @@ fn write_documents<W: Sink>(
     Ok(())
 }
 
-fn write_clients<W: Sink>(
+fn write_clients<W: Sink, K: Keeper>(
     alloc: Global,
-    run: &Run,
+    run: &Run<K>,
     buffer: &mut WriteBuffer,
     out: &mut W,
 ) -> Result<(), WriteFault>
@@ -161,7 +166,7 @@ fn write_line<W: Sink>(
 }
 
 // The line of a document at the end, under its number.
-fn document_line(alloc: Global, book: &Book, doc: u32) -> Result<Vec<u8>, AllocError>
+fn document_line<K: Keeper>(alloc: Global, book: &Book<K>, doc: u32) -> Result<Vec<u8>, AllocError>
     requires { IsMade doc book.now.journal }
     ensures { IfOk result (λ bytes. bytes.items ≡ document_line_lem doc book.now.journal) }
 {

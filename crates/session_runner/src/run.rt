@@ -7,40 +7,55 @@ ghost use Rattle.session_runner.specs.Passing.{MayFail, passed};
 ghost use Rattle.session_runner.specs.Run.{Answers, Completes, IsCutShort, IsDone, IsNoScript, IsOtherWords, IsStatus, IsTooLong, IsUnread, IsWanting};
 
 use crate::ending::{prepare, tell};
+use keeper::Keeper;
 use source_sink::{Sink, Source};
 use std::alloc::Global;
 
+/// How a run ended: its status, and its keeper.
+#[derive(Drop)]
+pub struct Ended<K> {
+    pub status: u8,
+    pub keeper: K,
+}
+
 /// Does what the words ask for: `run` reads a script from `input` and writes the report of its journal to `out`.
+///
+/// Documents that are flushed go to `keeper`, which is given back.
 ///
 /// The status is 0 where the run is done; 2 where the words aren't `run`; 3 where a line of the input can't be done;
 /// 4 for want of memory; 5 where the input couldn't be read; 6 where the output couldn't be written; and 8 where the
 /// input has more than 16,777,216 bytes. A status but 0, 4 and 6 has written one line `fault: ..`.
-pub fn run_alone<S: Source, W: Sink>(
+pub fn run_alone<S: Source, W: Sink, K: Keeper>(
     alloc: Global,
     words: &[String],
     input: &mut S,
     out: &mut W,
-) -> u8
-    ensures statuses { IsStatus result }
+    keeper: K,
+) -> Ended<K>
+    ensures statuses { IsStatus result.status }
 
     // The whole input was read, and the report of a legal journal that follows it was written.
-    ensures done { result ≡ 0 → IsDone words.now (passed S.left S.count input.old input.new) (passed W.written W.count out.old out.new) }
-    ensures words { result ≡ 2 → IsOtherWords words.now (passed S.left S.count input.old input.new) (passed W.written W.count out.old out.new) }
-    ensures script { result ≡ 3 → IsNoScript words.now (passed S.left S.count input.old input.new) (passed W.written W.count out.old out.new) }
-    ensures memory { result ≡ 4 → IsWanting words.now (passed S.left S.count input.old input.new) (passed W.written W.count out.old out.new) }
-    ensures read { result ≡ 5 → IsUnread words.now (passed S.left S.count input.old input.new) (passed W.written W.count out.old out.new) }
-    ensures written { result ≡ 6 → IsCutShort words.now (passed S.left S.count input.old input.new) (passed W.written W.count out.old out.new) }
-    ensures long { result ≡ 8 → IsTooLong words.now (passed S.left S.count input.old input.new) (passed W.written W.count out.old out.new) }
+    ensures done { result.status ≡ 0 → IsDone words.now (passed S.left S.count input.old input.new) (passed W.written W.count out.old out.new) }
+    ensures words { result.status ≡ 2 → IsOtherWords words.now (passed S.left S.count input.old input.new) (passed W.written W.count out.old out.new) }
+    ensures script { result.status ≡ 3 → IsNoScript words.now (passed S.left S.count input.old input.new) (passed W.written W.count out.old out.new) }
+    ensures memory { result.status ≡ 4 → IsWanting words.now (passed S.left S.count input.old input.new) (passed W.written W.count out.old out.new) }
+    ensures read { result.status ≡ 5 → IsUnread words.now (passed S.left S.count input.old input.new) (passed W.written W.count out.old out.new) }
+    ensures written { result.status ≡ 6 → IsCutShort words.now (passed S.left S.count input.old input.new) (passed W.written W.count out.old out.new) }
+    ensures long { result.status ≡ 8 → IsTooLong words.now (passed S.left S.count input.old input.new) (passed W.written W.count out.old out.new) }
 
     // Behind other words nothing is read.
-    ensures other_words { ¬ AreRun words.now → ((result ≡ 2) ⊎ ((result ≡ 6) × MayFail (passed W.written W.count out.old out.new))) × Keeps (S.left input.old) (S.left input.new) }
+    ensures other_words { ¬ AreRun words.now → ((result.status ≡ 2) ⊎ ((result.status ≡ 6) × MayFail (passed W.written W.count out.old out.new))) × Keeps (S.left input.old) (S.left input.new) }
 
     // Over a source that tells, the status is that of what was taken.
-    ensures answers { Answers words.now (passed S.left S.count input.old input.new) (passed W.written W.count out.old out.new) result }
+    ensures answers { Answers words.now (passed S.left S.count input.old input.new) (passed W.written W.count out.old out.new) result.status }
 
     // Where nothing fails, only want of memory stands between an input and its end.
-    ensures complete { Completes words.now (passed S.left S.count input.old input.new) (passed W.written W.count out.old out.new) result }
+    ensures complete { Completes words.now (passed S.left S.count input.old input.new) (passed W.written W.count out.old out.new) result.status }
 {
-    let ending = prepare(alloc, words, input);
-    tell(alloc, out, &ending)
+    let ending = prepare(alloc, words, input, keeper);
+    let status = tell(alloc, out, &ending);
+    Ended {
+        status,
+        keeper: ending.into_keeper(),
+    }
 }

@@ -16,14 +16,15 @@ use book::{Book, By};
 use dispatcher::{DrainEnd, drain};
 use journal_entries::Why;
 use journal_rules::ClientState;
+use keeper::Keeper;
 use share_client::ShareClient;
 use std::alloc::{AllocError, Global};
 
 /// Drains what waits for the document of a client that is joined or stale, and gives the client all of
 /// its mail; or the line is declined. The only error is want of memory.
-pub(crate) fn sync_client(
+pub(crate) fn sync_client<K: Keeper>(
     alloc: Global,
-    book: &mut Book,
+    book: &mut Book<K>,
     client: &mut ShareClient,
     by: By,
 ) -> Result<(), AllocError>
@@ -45,7 +46,12 @@ pub(crate) fn sync_client(
 }
 
 // Drains as many updates of a document as wait for it, unless the document is held.
-fn drain_waiting(alloc: Global, book: &mut Book, by: By, doc: u32) -> Result<(), AllocError>
+fn drain_waiting<K: Keeper>(
+    alloc: Global,
+    book: &mut Book<K>,
+    by: By,
+    doc: u32,
+) -> Result<(), AllocError>
     requires { by.seat ≡ 0 }
     ensures drains { OnOk result ((stop : Stop) × Drains (entry_by 0 by.line) Alone doc (length (waiting doc book.old.journal)) book.old.journal book.new.journal stop) }
     ensures apart { OnOk result (GoesApart (next_token book.old.journal) book.old.journal book.new.journal) }

@@ -1,5 +1,6 @@
 //! Runs over sources and sinks in memory.
 
+use keeper::SureKeeper;
 use session_runner::run_alone;
 use source_sink::{ByteSink, ByteSource, INPUT_LIMIT};
 use std::alloc::Global;
@@ -45,9 +46,10 @@ fn run_with(
     let words = words_of(alloc, words)?;
     let mut source = ByteSource::new(alloc, input, read_fails)?;
     let mut sink = ByteSink::new(alloc, write_fails)?;
-    let status = run_alone(alloc, &words, &mut source, &mut sink);
+    let keeper = SureKeeper::new(alloc);
+    let ended = run_alone(alloc, &words, &mut source, &mut sink, keeper);
     Ok(Ran {
-        status,
+        status: ended.status,
         output: Vec::from_slice(alloc, sink.as_slice())?,
     })
 }

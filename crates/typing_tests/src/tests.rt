@@ -2,6 +2,7 @@
 
 use crate::report::ends_of;
 use crate::script::{CLIENTS, returning_script, typing_script};
+use keeper::SureKeeper;
 use session_runner::run_alone;
 use source_sink::{ByteSink, SureSource};
 use std::alloc::Global;
@@ -17,8 +18,9 @@ fn report_of(rt: &impl Abort, alloc: Global, script: &str) -> Result<Vec<u8>, Fa
     words.push(String::from_str(alloc, "run")?)?;
     let mut source = SureSource::new(alloc, script.as_bytes())?;
     let mut sink = ByteSink::new(alloc, &[])?;
-    let status = run_alone(alloc, &words, &mut source, &mut sink);
-    assert_eq!(rt; status, 0);
+    let keeper = SureKeeper::new(alloc);
+    let ended = run_alone(alloc, &words, &mut source, &mut sink, keeper);
+    assert_eq!(rt; ended.status, 0);
     Ok(Vec::from_slice(alloc, sink.as_slice())?)
 }
 

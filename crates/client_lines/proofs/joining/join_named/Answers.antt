@@ -13,10 +13,10 @@ use Rattle.client_lines.proofs.Declining.{declined_client, on_ok}
 use Rattle.client_lines.proofs.joining.join_named.Goals as goal
 
 pub returns-in_default-clause-client : goal.returns-in_default-clause-client
-returns-in_default-clause-client c = on_ok c.decline.result (λ is. declined_client c.args.book.now c.decline.new.self c.args.by.seat c.args.by.line c.client.result _ c.args.client.now c.args.client.now c.requires refl is) c.decline.ensures.ok
+returns-in_default-clause-client g c = on_ok c.decline.result (λ is. declined_client c.args.book.now c.decline.new.self c.args.by.seat c.args.by.line c.client.result _ c.args.client.now c.args.client.now c.requires refl is) c.decline.ensures.ok
 
 pub returns-in-Ok-clause-cached : goal.returns-in-Ok-clause-cached
-returns-in-Ok-clause-cached c = λ doc named.
+returns-in-Ok-clause-cached g c = λ doc named.
     let j = c.args.book.now.journal in
     let e : Entry = entry_by c.args.by.seat c.args.by.line (Joined c.args.client.now.client c.in-Some.doc c.args.user.now c.args.track None (source_at j) (version c.in-Some.doc j)) in
     let legal : IsLegal (j ++ e ∷ []) = subst IsLegal (ap (λ (v : Shown). v.journal) c.in-Ok.ensures.ok.1) c.legal.ensures in

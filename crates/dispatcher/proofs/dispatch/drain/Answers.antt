@@ -4,5 +4,5 @@ use Rattle.dispatcher.proofs.Taking.{not_unmade}
 use Rattle.dispatcher.proofs.dispatch.drain.Goals as goal
 
 pub unreachable-requires : goal.unreachable-requires
-unreachable-requires c =
+unreachable-requires g c =
     not_unmade c.args.doc c.draining.book.journal c.draining.invariant.made (sym (ap told c.in-Err-NoDoc.field-0-is) ∙ c.in-Err-NoDoc.ensures.refused)

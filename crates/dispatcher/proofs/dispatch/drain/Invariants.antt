@@ -6,7 +6,7 @@ use Rattle.dispatcher.proofs.dispatch.drain.Given as goal
 
 -- so many were drained so far
 abbrev pub invariant-draining : goal.invariant-draining
-invariant-draining l = record {
+invariant-draining g l = record {
   many : DrainsMany (entry_by l.initial.by.seat l.initial.by.line) l.initial.doc l.count l.initial.book.journal l.book.journal;
   made : IsMade l.initial.doc l.book.journal;
   few : l.count ≤ l.initial.most;
@@ -14,4 +14,4 @@ invariant-draining l = record {
 }
 
 abbrev pub decreases-draining : goal.decreases-draining
-decreases-draining l = l.initial.most - l.count
+decreases-draining g l = l.initial.most - l.count

@@ -8,17 +8,17 @@ use Rattle.dispatcher.proofs.Taking.{may_refuse, not_stale, takes}
 use Rattle.dispatcher.proofs.dispatch.drain_one.Goals as goal
 
 pub settle-requires-clause-may : goal.settle-requires-clause-may
-settle-requires-clause-may c =
+settle-requires-clause-may g c =
     let was = c.in_ok-look.ensures in
     may_refuse c.args.by.seat c.args.by.line c.args.doc c.args.book.now.journal c.acquire.new.self.journal c.in_ok-look.look (ap (λ (b : Shown). b.journal) was.acquired) was.looks.0 was.looks.2 c.legal.ensures
 
 pub settle-requires-clause-fresh : goal.settle-requires-clause-fresh
-settle-requires-clause-fresh c =
+settle-requires-clause-fresh g c =
     let was = c.in_ok-look.ensures in
     not_stale c.args.by.seat c.args.by.line c.args.doc c.args.book.now.journal c.acquire.new.self.journal c.in_ok-look.look (ap (λ (b : Shown). b.journal) was.acquired) was.looks.0 was.looks.2 c.legal.ensures
 
 pub returns-clause-drains : goal.returns-clause-drains
-returns-clause-drains c =
+returns-clause-drains g c =
     let was = c.in_ok-look.ensures in
     let by = entry_by c.args.by.seat c.args.by.line in
     let old = c.args.book.now.journal in
@@ -32,4 +32,4 @@ returns-clause-drains c =
     )
 
 pub returns-clause-made : goal.returns-clause-made
-returns-clause-made c = made_behind (entry_by c.args.by.seat c.args.by.line) c.args.doc c.args.book.now.journal c.settle.new.book.journal (returns-clause-drains c) c.requires.made
+returns-clause-made g c = made_behind (entry_by c.args.by.seat c.args.by.line) c.args.doc c.args.book.now.journal c.settle.new.book.journal (returns-clause-drains g c) c.requires.made

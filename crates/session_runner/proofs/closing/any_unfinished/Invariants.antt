@@ -4,4 +4,4 @@ use Rattle.session_runner.proofs.closing.any_unfinished.Given as goal
 
 -- none of the clients so far is unfinished
 abbrev pub invariant-loop-client : goal.invariant-loop-client
-invariant-loop-client l = any_below (λ c. is_unfinished c l.book.journal) l.client-index ≡ false
+invariant-loop-client g l = any_below (λ c. is_unfinished c l.book.journal) l.client-index ≡ false

@@ -5,4 +5,4 @@ use Rattle.session_runner.proofs.closing.any_waits.Given as goal
 
 -- none of the documents so far has an update that waits
 abbrev pub invariant-loop-doc : goal.invariant-loop-doc
-invariant-loop-doc l = any_below (λ d. has_any (waiting d l.book.journal)) l.doc ≡ false
+invariant-loop-doc g l = any_below (λ d. has_any (waiting d l.book.journal)) l.doc ≡ false

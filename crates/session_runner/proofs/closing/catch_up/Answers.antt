@@ -9,7 +9,7 @@ use Rattle.session_runner.proofs.Quiet.{quiet_none, quiet_on}
 use Rattle.session_runner.proofs.closing.catch_up.Goals as goal
 
 pub returns-then-not-is_joined : goal.returns-then-not-is_joined
-returns-then-not-is_joined c =
+returns-then-not-is_joined g c =
     let n = c.args.client.now.client in let j = c.args.book.now.journal in
     record {
       catches = stays_behind n j j (ap (λ (s : Client). is_joined s.state) (sym c.requires) ∙ sym c.is_joined.ensures ∙ c.if-not-is_joined.true) refl;
@@ -18,7 +18,7 @@ returns-then-not-is_joined c =
     }
 
 pub returns : goal.returns
-returns c =
+returns g c =
     let got = c.in_ok-receive_all.ensures in let n = c.args.client.now.client in let j = c.args.book.now.journal in let mid = c.receive_all.new.book.journal in let last = c.send_own.new.book.journal in
     let joined = ap (λ (s : Client). is_joined s.state) (sym c.requires) ∙ sym c.is_joined.ensures ∙ c.if-not-is_joined.false in
     record {

@@ -11,7 +11,7 @@ use Rattle.session_runner.proofs.Rounding.{in_order_on, quiet_free}
 use Rattle.session_runner.proofs.closing.catch_up_all.Goals as goal
 
 pub loop-client-init : goal.loop-client-init
-loop-client-init c = record {
+loop-client-init g c = record {
   catches = refl;
   free = c.requires.free;
   clients = subst (λ (l : List Numbered). AreClientsOf l c.args.book.now.journal) (sym c.deref_mut-client-items.ensures.value) c.requires.clients;
@@ -19,14 +19,14 @@ loop-client-init c = record {
 }
 
 pub catch_up-requires : goal.catch_up-requires
-catch_up-requires c =
+catch_up-requires g c =
     let items = c.loop-client.client-items in let at = c.loop-client.client-index in
     let was = c.loop-client.invariant in let low = c.loop-client-test.true in let many = was.sessions in
     let item = get_or items at c.client-item.result in
     (was.clients.each at item (slice_get-get_or items at c.client-item.result (omega (arith, low, many)))).1
 
 pub loop-client-preserved : goal.loop-client-preserved
-loop-client-preserved c =
+loop-client-preserved g c =
     let j = c.loop-client.book.journal in let k = c.catch_up.new.book.journal in
     let items = c.loop-client.client-items in let at = c.loop-client.client-index in
     let was = c.loop-client.invariant in let low = c.loop-client-test.true in let many = was.sessions in

@@ -6,7 +6,7 @@ use Rattle.session_runner.specs.Clients.{AreClientsOf}
 use Rattle.session_runner.proofs.closing.catch_up_all.Given as goal
 
 abbrev pub invariant-loop-client : goal.invariant-loop-client
-invariant-loop-client l = record {
+invariant-loop-client g l = record {
   catches : InOrder CatchesUp l.client-index l.initial.book.journal l.book.journal;
   free : (doc : ℕ) → busy doc l.book.journal ≡ None;
   clients : AreClientsOf l.client-items l.book.journal;

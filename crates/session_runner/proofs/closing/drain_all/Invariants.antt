@@ -6,7 +6,7 @@ use Rattle.session_runner.specs.Clients.{StayAll}
 use Rattle.session_runner.proofs.closing.drain_all.Given as goal
 
 abbrev pub invariant-loop-doc : goal.invariant-loop-doc
-invariant-loop-doc l = record {
+invariant-loop-doc g l = record {
   drains : InOrder DrainsDry l.doc l.initial.book.journal l.book.journal;
   free : (doc : ℕ) → busy doc l.book.journal ≡ None;
   stay : StayAll l.initial.book.journal l.book.journal;

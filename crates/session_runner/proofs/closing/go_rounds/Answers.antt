@@ -6,13 +6,13 @@ use Rattle.session_runner.proofs.Rounding.{ends_rounds, no_rounds, one_round}
 use Rattle.session_runner.proofs.closing.go_rounds.Goals as goal
 
 pub rounds-init : goal.rounds-init
-rounds-init c = record { free = c.requires.free; clients = c.requires.clients; sessions = refl; goes = λ last rest. rest }
+rounds-init g c = record { free = c.requires.free; clients = c.requires.clients; sessions = refl; goes = λ last rest. rest }
 
 pub catch_up_all-requires-clause-clients : goal.catch_up_all-requires-clause-clients
-catch_up_all-requires-clause-clients c = all_stay c.rounds.clients.items c.rounds.book.journal c.drain_all.new.book.journal c.in_ok-drain_all.ensures.stay c.rounds.invariant.clients
+catch_up_all-requires-clause-clients g c = all_stay c.rounds.clients.items c.rounds.book.journal c.drain_all.new.book.journal c.in_ok-drain_all.ensures.stay c.rounds.invariant.clients
 
 pub rounds-preserved : goal.rounds-preserved
-rounds-preserved c =
+rounds-preserved g c =
     let j = c.rounds.book.journal in let mid = c.drain_all.new.book.journal in let k = c.catch_up_all.new.book.journal in
     let was = c.rounds.invariant in let done = c.in_ok-catch_up_all.ensures in
     let sessions = length c.args.clients.now.items in
@@ -26,9 +26,9 @@ rounds-preserved c =
     }
 
 pub returns-clause-rounds : goal.returns-clause-rounds
-returns-clause-rounds c = c.rounds.invariant.goes c.rounds.book.journal (no_rounds (length c.args.clients.now.items) c.rounds.left c.rounds.book.journal c.rounds-test.false)
+returns-clause-rounds g c = c.rounds.invariant.goes c.rounds.book.journal (no_rounds (length c.args.clients.now.items) c.rounds.left c.rounds.book.journal c.rounds-test.false)
 
 pub returns-then-not-needs_round-clause-rounds : goal.returns-then-not-needs_round-clause-rounds
-returns-then-not-needs_round-clause-rounds c =
+returns-then-not-needs_round-clause-rounds g c =
     let j = c.rounds.book.journal in let was = c.rounds.invariant in
     was.goes j (ends_rounds (length c.args.clients.now.items) c.rounds.left j (ap (λ n. needs_round n j) (sym was.sessions) ∙ sym c.needs_round.ensures ∙ c.if-not-needs_round.true))

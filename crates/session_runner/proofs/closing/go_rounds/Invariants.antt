@@ -7,7 +7,7 @@ use Rattle.session_runner.proofs.closing.go_rounds.Given as goal
 
 -- no lock keeps seat 0 out, each session has its client, and however the rounds that are left go, the whole goes so
 abbrev pub invariant-rounds : goal.invariant-rounds
-invariant-rounds l = record {
+invariant-rounds g l = record {
   free : (doc : ℕ) → busy doc l.book.journal ≡ None;
   clients : AreClientsOf l.clients.items l.book.journal;
   sessions : length l.clients.items ≡ length l.initial.clients.items;
@@ -15,4 +15,4 @@ invariant-rounds l = record {
 }
 
 abbrev pub decreases-rounds : goal.decreases-rounds
-decreases-rounds l = l.left
+decreases-rounds g l = l.left

@@ -9,7 +9,7 @@ use Rattle.session_runner.proofs.Lines.{on_ok}
 use Rattle.session_runner.proofs.closing.send_own.Goals as goal
 
 pub returns-then-is_some : goal.returns-then-is_some
-returns-then-is_some c =
+returns-then-is_some g c =
     let s = c.args.client.now in let j = c.args.book.now.journal in let by = c.resend.ensures in
     let flight = sym (flies c.flight.result s.now.flight c.flight.ensures) ∙ sym c.is_some.ensures ∙ c.if-is_some.true in
     record {
@@ -20,7 +20,7 @@ returns-then-is_some c =
     }
 
 pub returns : goal.returns
-returns c =
+returns g c =
     let s = c.args.client.now in let j = c.args.book.now.journal in let by = c.send.ensures in
     let flight = sym (flies c.flight.result s.now.flight c.flight.ensures) ∙ sym c.is_some.ensures ∙ c.if-is_some.false in
     record {

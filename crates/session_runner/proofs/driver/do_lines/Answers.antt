@@ -19,13 +19,13 @@ use Rattle.session_runner.proofs.Lines.{by_parts, by_rest, empty_driver, kept_no
 use Rattle.session_runner.proofs.driver.do_lines.Goals as goal
 
 pub loop-line-init : goal.loop-line-init
-loop-line-init c =
+loop-line-init g c =
     let same : c.into_iter-line-iterator.result.rest.items ≡ c.args.lines.items = search rules in
     let new = c.in_ok-driver.ensures in
     let none : c.in_ok-driver.driver.book.journal ≡ [] = ap (λ (b : Shown). b.journal) new.book in
     let now = ap clock none ∙ clock-none in
     rw same (record {
-      driver = empty_driver c.in_ok-driver.driver new.book new.nothing new.away (new.many ∙ sym new.sessions);
+      driver = empty_driver c.in_ok-driver.driver (none, ap (λ (b : Shown). b.drivers) new.book) new.nothing new.away (new.many ∙ sym new.sessions);
       sessions = new.sessions;
       fit = subst (λ (ms : List Making). AreFit ms c.args.lines.items) (sym (ap makings none ∙ makings-none)) c.requires.fit;
       built = c.requires.built;
@@ -38,31 +38,31 @@ loop-line-init c =
     })
 
 pub do_line-requires-clause-fit : goal.do_line-requires-clause-fit
-do_line-requires-clause-fit c =
+do_line-requires-clause-fit g c =
     let rest : c.loop-line.line-iterator.rest.items ≡ c.in-Some.line ∷ c.next.new.self.rest.items = search rules in
     (subst (λ (ls : List Line). AreFit (makings c.loop-line.driver.book.journal) ls) rest c.loop-line.invariant.fit).0
 
 pub do_line-requires-clause-built : goal.do_line-requires-clause-built
-do_line-requires-clause-built c =
+do_line-requires-clause-built g c =
     let rest : c.loop-line.line-iterator.rest.items ≡ c.in-Some.line ∷ c.next.new.self.rest.items = search rules in
     (subst (λ (ls : List Line). AreBuilt ls) rest c.loop-line.invariant.built).0
 
 pub do_line-requires-clause-numbered : goal.do_line-requires-clause-numbered
-do_line-requires-clause-numbered c =
+do_line-requires-clause-numbered g c =
     let rest : c.loop-line.line-iterator.rest.items ≡ c.in-Some.line ∷ c.next.new.self.rest.items = search rules in
     by_parts c.args.sessions (length c.loop-line.driver.holds.items) c.in-Some.line c.next.new.self.rest.items (sym c.loop-line.invariant.sessions) (subst (λ (ls : List Line). AreBySessions c.args.sessions ls) rest c.loop-line.invariant.by)
 
 pub do_line-requires-clause-low : goal.do_line-requires-clause-low
-do_line-requires-clause-low c =
+do_line-requires-clause-low g c =
     let rest : c.loop-line.line-iterator.rest.items ≡ c.in-Some.line ∷ c.next.new.self.rest.items = search rules in
     let now = c.loop-line.invariant.clock in let cut = ap (λ (ls : List Line). sum_by moved_by ls) rest in
     let sum = sum_by-append moved_by (c.in-Some.line ∷ []) c.next.new.self.rest.items in let slow = c.requires.slow in
     omega (arith, now, cut, sum, slow)
 
 pub loop-line-preserved : goal.loop-line-preserved
-loop-line-preserved c =
+loop-line-preserved g c =
     let rest : c.loop-line.line-iterator.rest.items ≡ c.in-Some.line ∷ c.next.new.self.rest.items = search rules in
-    let was = c.loop-line.invariant in let done = c.in_ok-do_line.ensures in let behind = done.behind in
+    let was = c.loop-line.invariant in let done = c.in-Ok.ensures in let behind = done.behind in
     let fit = subst (λ (ls : List Line). AreFit (makings c.loop-line.driver.book.journal) ls) rest was.fit in
     let built = subst (λ (ls : List Line). AreBuilt ls) rest was.built in
     let by = subst (λ (ls : List Line). AreBySessions c.args.sessions ls) rest was.by in

@@ -13,7 +13,7 @@ use Rattle.session_runner.proofs.driver.do_lines.Given as goal
 
 -- the rest fits, and whatever it leads to, the whole leads to
 abbrev pub invariant-loop-line : goal.invariant-loop-line
-invariant-loop-line l = record {
+invariant-loop-line g l = record {
   driver : IsDriver l.driver;
   sessions : length l.driver.holds.items ≡ l.fn.sessions;
   fit : AreFit (makings l.driver.book.journal) l.line-iterator.rest.items;

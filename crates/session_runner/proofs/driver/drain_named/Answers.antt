@@ -12,17 +12,17 @@ use Rattle.session_runner.proofs.Lines.{drains_named, on_ok}
 use Rattle.session_runner.proofs.driver.drain_named.Goals as goal
 
 pub returns-in-Done-clause-drains : goal.returns-in-Done-clause-drains
-returns-in-Done-clause-drains c =
+returns-in-Done-clause-drains g c =
     let by = entry_by 0 (Some c.args.number) in let old = c.args.book.now.journal in let new = c.drain.new.book.journal in let doc = c.in-Some.doc in
     let wait = c.waiting-most.ensures in let some = c.if-most-eq0.false in
     drains_named by c.args.session doc c.args.name.now old new new Done (sym c.find.ensures ∙ c.in-Some.is) (omega (arith, wait, some))
     (subst (λ (n : ℕ). Drains by Alone doc n old new Done) wait (drains_done by doc c.waiting-most.result c.in-Done.count old new c.in-Done.ensures.drained)) (sym (append-nil new))
 
 pub returns-in-Done-clause-apart : goal.returns-in-Done-clause-apart
-returns-in-Done-clause-apart c = many_drained (Some c.args.number) c.in-Some.doc c.in-Done.count c.args.book.now.journal c.drain.new.book.journal c.in-Done.ensures.drained.0
+returns-in-Done-clause-apart g c = many_drained (Some c.args.number) c.in-Some.doc c.in-Done.count c.args.book.now.journal c.drain.new.book.journal c.in-Done.ensures.drained.0
 
 pub returns-in-Busy-clause-drains : goal.returns-in-Busy-clause-drains
-returns-in-Busy-clause-drains c =
+returns-in-Busy-clause-drains g c =
     let by = entry_by 0 (Some c.args.number) in let old = c.args.book.now.journal in let mid = c.drain.new.book.journal in let doc = c.in-Some.doc in
     let wait = c.waiting-most.ensures in let some = c.if-most-eq0.false in
     on_ok c.decline-in-Busy.result
@@ -31,7 +31,7 @@ returns-in-Busy-clause-drains c =
     c.decline-in-Busy.ensures.ok
 
 pub returns-in-Busy-clause-apart : goal.returns-in-Busy-clause-apart
-returns-in-Busy-clause-apart c =
+returns-in-Busy-clause-apart g c =
     let line = Some c.args.number in let old = c.args.book.now.journal in let mid = c.drain.new.book.journal in let new = c.decline-in-Busy.new.self.journal in
     on_ok c.decline-in-Busy.result
     (λ is. apart_on (next_token old) old mid new (many_drained line c.in-Some.doc c.in-Busy.count old mid c.in-Busy.ensures.drained.0)

@@ -8,22 +8,22 @@ use Rattle.session_runner.proofs.Fitting.{ticks_low}
 use Rattle.session_runner.proofs.ending.run_lines.Goals as goal
 
 pub do_lines-requires-clause-slow : goal.do_lines-requires-clause-slow
-do_lines-requires-clause-slow c = let low = ticks_low c.args.lines.items c.requires.slow in omega (arith, low)
+do_lines-requires-clause-slow g c = let low = ticks_low c.args.lines.items c.requires.slow in omega (arith, low)
 
 pub end_run-requires-clause-low : goal.end_run-requires-clause-low
-end_run-requires-clause-low c = let low = ticks_low c.args.lines.items c.requires.slow in let now = c.in_ok-book.ensures.clock in omega (arith, low, now)
+end_run-requires-clause-low g c = let low = ticks_low c.args.lines.items c.requires.slow in let now = c.in_ok-book.ensures.clock in omega (arith, low, now)
 
 pub returns : goal.returns
-returns c =
+returns g c =
     let many = c.in_ok-book.ensures.many in
     let j = c.in_ok-book.field-0.book.journal in
     let last = c.end_run.new.book.journal in
     let follows : FollowsUnflushed c.args.lines.items c.args.sessions last =
-    record { done = j; leads = c.in_ok-book.ensures.leads; ends = subst (λ n. EndsUnflushed n (j ++ entry_by 0 None (Closed 0) ∷ []) last) many c.in_ok-end_run.ensures.ends } in
+    record { done = j; leads = c.in_ok-book.ensures.leads; ends = subst (λ n. EndsUnflushed n (j ++ entry_by 0 None (Closed 0) ∷ []) last) many c.in-Ok.ensures.ends } in
     record {
       legal = c.legal.ensures;
       follows = follows;
       ended = unflushed_ended c.args.lines.items c.args.sessions last c.legal.ensures c.requires.numbered follows;
-      clients = c.in_ok-end_run.ensures.clients;
-      many = c.in_ok-end_run.ensures.sessions ∙ many;
+      clients = c.in-Ok.ensures.clients;
+      many = c.in-Ok.ensures.sessions ∙ many;
     }

@@ -9,7 +9,7 @@ use Rattle.session_runner.proofs.Quiet.{quiet_none, quiet_on}
 use Rattle.session_runner.proofs.mail.receive_all.Goals as goal
 
 pub getting-init : goal.getting-init
-getting-init c = record {
+getting-init g c = record {
   goes = λ last rest. rest;
   client = record { client_is = refl; stands = c.requires.client };
   quiet = quiet_none c.args.client.now.client c.args.book.now.journal c.args.book.now.journal refl;
@@ -17,12 +17,12 @@ getting-init c = record {
 }
 
 pub getting-smaller : goal.getting-smaller
-getting-smaller c =
+getting-smaller g c =
     let was = c.getting.invariant in let got = c.in_ok-receive.ensures in
     less_mail c.args.by.seat c.args.by.line c.args.client.now c.getting.client c.getting.book c.receive.new.self c.in_ok-receive.field-0 c.requires.seat was.client.client_is (sym c.is_some.ensures ∙ c.if-is_some.true) got.first got.got
 
 pub getting-preserved : goal.getting-preserved
-getting-preserved c =
+getting-preserved g c =
     let was = c.getting.invariant in let got = c.in_ok-receive.ensures in
     record {
       goes = λ last rest. was.goes last (gets_first c.args.by.seat c.args.by.line c.args.client.now c.getting.client c.getting.book c.receive.new.self c.in_ok-receive.field-0 c.requires.seat was.client.client_is (sym c.is_some.ensures ∙ c.if-is_some.true) got.first got.got last rest);
@@ -33,7 +33,7 @@ getting-preserved c =
     }
 
 pub returns-clause-gets : goal.returns-clause-gets
-returns-clause-gets c =
+returns-clause-gets g c =
     let was = c.getting.invariant in let got = c.in_ok-receive.ensures in
     let none = sym c.is_some.ensures ∙ c.if-is_some.false in
     let same = ap (λ (b : Shown). b.journal) (got.none (not_there c.in_ok-receive.field-0 none)).0 in

@@ -9,7 +9,7 @@ use Rattle.session_runner.proofs.mail.receive_all.Given as goal
 
 -- however the client gets what is left of its mail, it gets the whole so
 abbrev pub invariant-getting : goal.invariant-getting
-invariant-getting l = record {
+invariant-getting g l = record {
   goes : (last : List Entry) → Gets (entry_by 0 l.by.line) Alone l.initial.client.client l.book.journal last → Gets (entry_by 0 l.by.line) Alone l.initial.client.client l.initial.book.journal last;
   client : IsClientAfter l.book.journal l.initial.client l.client;
   quiet : GoesQuietly l.initial.client.client l.initial.book.journal l.book.journal;
@@ -18,4 +18,4 @@ invariant-getting l = record {
 
 -- the mail that is left
 abbrev pub decreases-getting : goal.decreases-getting
-decreases-getting l = length (mail l.initial.client.client l.book.journal)
+decreases-getting g l = length (mail l.initial.client.client l.book.journal)

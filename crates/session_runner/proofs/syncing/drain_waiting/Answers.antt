@@ -11,16 +11,16 @@ use Rattle.session_runner.proofs.Apart.{many_drained, none_apart}
 use Rattle.session_runner.proofs.syncing.drain_waiting.Goals as goal
 
 pub returns-then-most-eq0-clause-drains : goal.returns-then-most-eq0-clause-drains
-returns-then-most-eq0-clause-drains c =
+returns-then-most-eq0-clause-drains g c =
     let j = c.args.book.now.journal in
     let none : 0 ≡ length (waiting c.args.doc j) = let w = c.waiting-most.ensures in let z = c.if-most-eq0.true in omega (arith, w, z) in
     (Done, subst (λ n. Drains (entry_by 0 c.args.by.line) Alone c.args.doc n j j Done) none (refl, refl))
 
 pub returns-then-most-eq0-clause-apart : goal.returns-then-most-eq0-clause-apart
-returns-then-most-eq0-clause-apart c = none_apart _ c.args.book.now.journal c.args.book.now.journal refl
+returns-then-most-eq0-clause-apart g c = none_apart _ c.args.book.now.journal c.args.book.now.journal refl
 
 pub drain-requires : goal.drain-requires
-drain-requires c = record { made = by (cases_lt c.args.doc (length (makings c.args.book.now.journal))) }
+drain-requires g c = record { made = by (cases_lt c.args.doc (length (makings c.args.book.now.journal))) }
   where
     by : (c.args.doc < length (makings c.args.book.now.journal)) ⊎ (length (makings c.args.book.now.journal) ≤ c.args.doc) → IsMade c.args.doc c.args.book.now.journal
     by (inl made) = made
@@ -30,7 +30,7 @@ drain-requires c = record { made = by (cases_lt c.args.doc (length (makings c.ar
         absurd (c.if-most-eq0.false (omega (arith, w, none)))
 
 pub returns-in-Done : goal.returns-in-Done
-returns-in-Done c =
+returns-in-Done g c =
     let old = c.args.book.now.journal in
     let new = c.drain.new.book.journal in
     let d = subst (λ n. Drained (entry_by n c.args.by.line) c.args.doc c.waiting-most.result old new (end.Done c.in-Done.count)) c.requires c.in-Done.ensures.drained in
@@ -41,7 +41,7 @@ returns-in-Done c =
     }
 
 pub returns-in-Busy : goal.returns-in-Busy
-returns-in-Busy c =
+returns-in-Busy g c =
     let old = c.args.book.now.journal in
     let new = c.drain.new.book.journal in
     let d = subst (λ n. Drained (entry_by n c.args.by.line) c.args.doc c.waiting-most.result old new (end.Busy c.in-Busy.count c.in-Busy.busy)) c.requires c.in-Busy.ensures.drained in

@@ -6,9 +6,9 @@ use Rattle.session_runner.proofs.Lines.{on_ok}
 use Rattle.session_runner.proofs.syncing.sync_client.Goals as goal
 
 pub returns-then-not-is_present-clause-client : goal.returns-then-not-is_present-clause-client
-returns-then-not-is_present-clause-client c = on_ok c.decline.result (λ is. declined_client c.args.book.now c.decline.new.self c.args.by.seat c.args.by.line c.client.result _ c.args.client.now c.args.client.now c.requires.client refl is) c.decline.ensures.ok
+returns-then-not-is_present-clause-client g c = on_ok c.decline.result (λ is. declined_client c.args.book.now c.decline.new.self c.args.by.seat c.args.by.line c.client.result _ c.args.client.now c.args.client.now c.requires.client refl is) c.decline.ensures.ok
 
 pub receive_all-requires-clause-client : goal.receive_all-requires-clause-client
-receive_all-requires-clause-client c =
+receive_all-requires-clause-client g c =
     let old = c.args.book.now.journal in
     c.requires.client ∙ sym (same_clients (next_token old) old c.drain_waiting.new.book.journal c.in_ok-drain_waiting.ensures.apart c.args.client.now.client)

@@ -23,10 +23,11 @@ use Rattle.book.proofs.Tokens.{acquirings_short}
 use Rattle.book.proofs.Standing.{is_decidable}
 use Rattle.book.proofs.Settling.{agrees, short_look, ready}
 use Rattle.book.proofs.Locking.{acquired_look, acquire_empty, acquire_busy, acquire_free, acquired_book, may_acquire, token_below, waits_first}
+use Rattle.book.proofs.Stored.{keeps_by}
 use Rattle.book.proofs.book.Book.acquire.Goals as goal
 
 pub returns-in_default-front-clause-refused : goal.returns-in_default-front-clause-refused
-returns-in_default-front-clause-refused c =
+returns-in_default-front-clause-refused g c =
     let s = c.self.inside in
     let items = s.documents.items in
     let x = c.in-Some.document.now in
@@ -34,7 +35,7 @@ returns-in_default-front-clause-refused c =
     rw (← c.self.view_is) (sym (acquire_empty (entries s.journal) items c.args.doc x c.self.invariant.book.stands at (sym c.front.ensures ∙ ap option_copied c.in_default-front.is)))
 
 pub returns-in-Some-busy-clause-refused : goal.returns-in-Some-busy-clause-refused
-returns-in-Some-busy-clause-refused c =
+returns-in-Some-busy-clause-refused g c =
     let s = c.self.inside in
     let items = s.documents.items in
     let x = c.in-Some.document.now in
@@ -45,7 +46,7 @@ returns-in-Some-busy-clause-refused c =
     rw (← c.self.view_is) (search (rules, a, c.in-Some-busy.ensures.told))
 
 pub overflow_add-token : goal.overflow_add-token
-overflow_add-token c =
+overflow_add-token g c =
     let t = c.self.invariant.book.tokens_are in
     let short = acquirings_short (entries c.self.inside.journal) in
     let l = c.len-length.ensures.value in
@@ -53,7 +54,7 @@ overflow_add-token c =
     omega (arith, t, short, l, k)
 
 pub unreachable-requires : goal.unreachable-requires
-unreachable-requires c =
+unreachable-requires g c =
     let s = c.self.inside in
     let items = s.documents.items in
     let x = c.in-Some.document.now in
@@ -65,13 +66,13 @@ unreachable-requires c =
     absurd (cc)
 
 pub take-until-requires-clause-next : goal.take-until-requires-clause-next
-take-until-requires-clause-next c = λ d at.
+take-until-requires-clause-next g c = λ d at.
     let b = token_below (entries c.self.inside.journal) c.self.inside.documents.items c.args.doc d c.self.invariant.book.stands at in
     let t = c.self.invariant.book.tokens_are in
     omega (arith, b, t)
 
 pub take-until-requires-clause-free : goal.take-until-requires-clause-free
-take-until-requires-clause-free c = λ d here.
+take-until-requires-clause-free g c = λ d here.
     let s = c.self.inside in
     let items = s.documents.items in
     let x = c.in-Some.document.now in
@@ -80,7 +81,7 @@ take-until-requires-clause-free c = λ d here.
     subst (λ (y : Document). IsUnexpired y.lock s.moment → ⊥) (same_item x d (sym at ∙ here)) free
 
 pub invariant_of-self-2 : goal.invariant_of-self-2
-invariant_of-self-2 c =
+invariant_of-self-2 g c =
     let s = c.self.inside in
     let items = s.documents.items in
     let x = c.in-Some.document.now in
@@ -96,10 +97,11 @@ invariant_of-self-2 c =
           c.self.invariant.book c.take-until.ensures.names c.make_room.ensures.entries c.in-Ok-make_room.ensures.room c.push.ensures.entries c.push.ensures.spare (ap (λ (e : Entry). e.seat) c.entry_of.ensures)
           (ap (λ (e : Entry). e.act) c.entry_of.ensures ∙ ap (λ n. Acquired c.args.doc (s.tokens + 1) n) c.take-until.ensures.until) row c.take-until.ensures.taken;
       roomed = roomed_quiet_by s.rooms (entries s.journal) (entries c.make_room.new.journal) (entries c.push.new.self) c.args.by.seat c.args.by.line (Acquired c.args.doc (s.tokens + 1) c.take-until.result) c.entry_of.result c.entry_of.ensures c.make_room.ensures.entries c.push.ensures.entries c.self.invariant.book.stands.legal tt refl (λ d. refl) c.self.invariant.roomed;
+      keeps = keeps_by (entries s.journal) (entries c.make_room.new.journal) (entries c.push.new.self) c.args.by.seat c.args.by.line (Acquired c.args.doc (s.tokens + 1) c.take-until.result) c.entry_of.result c.entry_of.ensures c.make_room.ensures.entries c.push.ensures.entries (λ d o. refl) refl tt c.self.invariant.keeps;
     }
 
 pub returns-in_default-look-clause-refused : goal.returns-in_default-look-clause-refused
-returns-in_default-look-clause-refused c =
+returns-in_default-look-clause-refused g c =
     let s = c.self.inside in
     let items = s.documents.items in
     let x = c.in-Some.document.now in
@@ -109,7 +111,7 @@ returns-in_default-look-clause-refused c =
     rw (← c.self.view_is) (sym (acquire_free (entries s.journal) items c.args.doc x c.self.invariant.book.stands at c.in-Some-front.field-0.now s.moment first c.self.invariant.book.now_is free))
 
 pub returns-in_default-make_room-clause-refused : goal.returns-in_default-make_room-clause-refused
-returns-in_default-make_room-clause-refused c =
+returns-in_default-make_room-clause-refused g c =
     let s = c.self.inside in
     let items = s.documents.items in
     let x = c.in-Some.document.now in
@@ -119,7 +121,7 @@ returns-in_default-make_room-clause-refused c =
     rw (← c.self.view_is) (sym (acquire_free (entries s.journal) items c.args.doc x c.self.invariant.book.stands at c.in-Some-front.field-0.now s.moment first c.self.invariant.book.now_is free))
 
 pub returns-clause-free : goal.returns-clause-free
-returns-clause-free c =
+returns-clause-free g c =
     let s = c.self.inside in
     let items = s.documents.items in
     let x = c.in-Some.document.now in
@@ -129,7 +131,7 @@ returns-clause-free c =
     rw (← c.self.view_is) (acquire_free (entries s.journal) items c.args.doc x c.self.invariant.book.stands at c.in-Some-front.field-0.now s.moment first c.self.invariant.book.now_is free)
 
 pub returns-clause-ready : goal.returns-clause-ready
-returns-clause-ready c =
+returns-clause-ready g c =
     let s = c.self.inside in
     let items = s.documents.items in
     let x = c.in-Some.document.now in
@@ -142,7 +144,7 @@ returns-clause-ready c =
     record { agrees = agrees x u c.in-Ok.look look can; short = short_look x u c.in-Ok.look look can; ready = λ within. ready x u c.in-Ok.look look can sized within }
 
 pub returns-clause-looks : goal.returns-clause-looks
-returns-clause-looks c =
+returns-clause-looks g c =
     let s = c.self.inside in
     let j = entries s.journal in
     let e = c.entry_of.result in
@@ -168,14 +170,14 @@ returns-clause-looks c =
     (rw more (acquired_look doc token until t.was t.now x u c.in-Ok.look j e w.0 c.in-Some-front.field-0.now (subst (λ (y : Document). IsLook y u c.in-Ok.look) (same_item x t.was (sym at ∙ t.at)) c.in-Ok.ensures.look) here before locked is seat_is taking (ap (λ t. is_in t (used j)) next ∙ next_unused j legal) c.len-length.ensures.value w.1 named), taking.0, taking.2)
 
 pub take-until-requires-clause-within : goal.take-until-requires-clause-within
-take-until-requires-clause-within c =
+take-until-requires-clause-within g c =
     let s = c.self.inside in
     let x = c.in-Some.document.now in
     let at : slice_get s.documents.items c.args.doc ≡ Some x = sym c.get.ensures ∙ ap option_copied c.in-Some.is in
     slice_get_within s.documents.items c.args.doc x at
 
 pub returns-clause-cached : goal.returns-clause-cached
-returns-clause-cached c =
+returns-clause-cached g c =
     let s = c.self.inside in
     let x = c.in-Some.document.now in
     let at : slice_get s.documents.items c.args.doc ≡ Some x = sym c.get.ensures ∙ ap option_copied c.in-Some.is in

@@ -4,10 +4,11 @@ use Rattle.book.proofs.Roomed.{roomed_quiet_by}
 use Rattle.journal_entries.specs.Journals.{entries}
 use Rattle.journal_entries.specs.declared.act.Act.TheVariants.{Closed}
 use Rattle.book.proofs.Booking.{closed_book, driver_owed}
+use Rattle.book.proofs.Stored.{keeps_by}
 use Rattle.book.proofs.book.Book.close_driver.Goals as goal
 
 pub push-requires : goal.push-requires
-push-requires c =
+push-requires g c =
     let s = c.self.inside in
     let below = subst (λ (v : Shown). c.args.driver < driver_count v.drivers) (sym c.self.view_is) c.requires.one in
     let one = driver_owed s.journal s.documents.items s.moment s.tokens s.owed s.drivers c.args.driver c.self.invariant.book below (search (rules, c.requires.once, c.self.view_is)) in
@@ -15,16 +16,17 @@ push-requires c =
     omega (arith, one, room)
 
 pub overflow_sub-self : goal.overflow_sub-self
-overflow_sub-self c =
+overflow_sub-self g c =
     let s = c.self.inside in
     let below = subst (λ (v : Shown). c.args.driver < driver_count v.drivers) (sym c.self.view_is) c.requires.one in
     driver_owed s.journal s.documents.items s.moment s.tokens s.owed s.drivers c.args.driver c.self.invariant.book below (search (rules, c.requires.once, c.self.view_is))
 
 pub invariant_of-self : goal.invariant_of-self
-invariant_of-self c =
+invariant_of-self g c =
     let s = c.self.inside in
     let below = subst (λ (v : Shown). c.args.driver < driver_count v.drivers) (sym c.self.view_is) c.requires.one in
     record {
       book = closed_book s.journal c.push.new.self s.documents.items s.moment s.tokens s.owed s.drivers c.args.driver c.entry_of.result c.self.invariant.book c.push.ensures.entries c.push.ensures.spare (search rules) below (search (rules, c.requires.once, c.self.view_is));
       roomed = roomed_quiet_by s.rooms (entries s.journal) (entries s.journal) (entries c.push.new.self) c.args.by.seat c.args.by.line (Closed c.args.driver) c.entry_of.result c.entry_of.ensures refl c.push.ensures.entries c.self.invariant.book.stands.legal tt refl (λ d. refl) c.self.invariant.roomed;
+      keeps = keeps_by (entries s.journal) (entries s.journal) (entries c.push.new.self) c.args.by.seat c.args.by.line (Closed c.args.driver) c.entry_of.result c.entry_of.ensures refl c.push.ensures.entries (λ d o. refl) refl tt c.self.invariant.keeps;
     }

@@ -16,31 +16,32 @@ use Rattle.book.specs.Shown.{Shown}
 use Rattle.book.proofs.Fenced.{first}
 use Rattle.book.proofs.Committing.{committed_book, decided_now, version_fits}
 use Rattle.book.proofs.Locking.{told_by, told_unmade, held_owed, some_waits}
+use Rattle.book.proofs.Stored.{keeps_by}
 use Rattle.book.proofs.book.Book.commit.Goals as goal
 
 pub returns-then-at-len-clause-refused : goal.returns-then-at-len-clause-refused
-returns-then-at-len-clause-refused c =
+returns-then-at-len-clause-refused g c =
     let s = c.self.inside in
     let len = c.len.ensures in
     let high = c.if-at-len.true in
     rw (← c.self.view_is) (told_unmade s.journal s.documents.items s.moment s.tokens s.owed s.drivers c.args.prepared.look.doc c.args.prepared.look.token c.self.invariant.book (Some c.never_given.result) (omega (arith, len, high)) c.never_given.ensures)
 
 pub returns-in-Some-clause-refused : goal.returns-in-Some-clause-refused
-returns-in-Some-clause-refused c =
+returns-in-Some-clause-refused g c =
     let s = c.self.inside in
     let len = c.len.ensures in
     let low = c.if-at-len.false in
     rw (← c.self.view_is) (told_by s.journal s.documents.items s.moment s.tokens s.owed s.drivers c.args.prepared.look.doc c.args.prepared.look.token c.self.invariant.book (Some c.in-Some.stale) (omega (arith, len, low)) (λ d at. c.check.ensures d at ∙ c.in-Some.is))
 
 pub returns-in_default-copy_op-clause-refused : goal.returns-in_default-copy_op-clause-refused
-returns-in_default-copy_op-clause-refused c =
+returns-in_default-copy_op-clause-refused g c =
     let s = c.self.inside in
     let len = c.len.ensures in
     let low = c.if-at-len.false in
     rw (← c.self.view_is) (told_by s.journal s.documents.items s.moment s.tokens s.owed s.drivers c.args.prepared.look.doc c.args.prepared.look.token c.self.invariant.book None (omega (arith, len, low)) (λ d at. c.check.ensures d at ∙ c.in_default.is), refl)
 
 pub push-requires : goal.push-requires
-push-requires c =
+push-requires g c =
     let s = c.self.inside in
     let len = c.len.ensures in
     let low = c.if-at-len.false in
@@ -49,14 +50,14 @@ push-requires c =
     omega (arith, one, room)
 
 pub overflow_sub-self : goal.overflow_sub-self
-overflow_sub-self c =
+overflow_sub-self g c =
     let s = c.self.inside in
     let len = c.len.ensures in
     let low = c.if-at-len.false in
     held_owed s.journal s.documents.items s.moment s.tokens s.owed s.drivers c.args.prepared.look.doc c.args.prepared.look.token c.self.invariant.book (omega (arith, len, low)) (λ d at. c.check.ensures d at ∙ c.in_default.is)
 
 pub settle-outcome-requires-clause-waits : goal.settle-outcome-requires-clause-waits
-settle-outcome-requires-clause-waits c = λ d at.
+settle-outcome-requires-clause-waits g c = λ d at.
     let s = c.self.inside in
     let len = c.len.ensures in
     let low = c.if-at-len.false in
@@ -66,13 +67,13 @@ settle-outcome-requires-clause-waits c = λ d at.
     some_waits (entries s.journal) s.documents.items look.doc d look.ticket _ c.self.invariant.book.stands at (first look (entries s.journal) c.self.invariant.book.stands.legal of none)
 
 pub settle-outcome-requires-clause-low : goal.settle-outcome-requires-clause-low
-settle-outcome-requires-clause-low c = λ d at.
+settle-outcome-requires-clause-low g c = λ d at.
     let value = c.len-length.ensures.value in
     let short = c.len-length.ensures.short in
     version_fits (entries c.self.inside.journal) c.self.inside.documents.items d c.args.prepared.look.doc c.self.invariant.book.stands at (omega (arith, value, short))
 
 pub invariant_of-self : goal.invariant_of-self
-invariant_of-self c =
+invariant_of-self g c =
     let s = c.self.inside in
     let len = c.len.ensures in
     let low = c.if-at-len.false in
@@ -91,10 +92,11 @@ invariant_of-self c =
       book = book;
       roomed = roomed_committed j c.entry_of.result look.doc look.token look.ticket c.settle-outcome.result u _ c.self.invariant.book.stands.legal act (first look j c.self.invariant.book.stands.legal of none) named own s.rooms c.post.new.rooms (entries c.push.new.self) c.push.ensures.entries book.stands.legal
           (λ k. c.post.ensures k ∙ ap (λ n. option_map (posted_by k u n c.settle-outcome.result) (member k s.rooms)) c.len-length.ensures.value) c.self.invariant.roomed;
+      keeps = keeps_by j j (entries c.push.new.self) c.args.by.seat c.args.by.line (Committed look.doc look.token look.ticket c.settle-outcome.result) c.entry_of.result c.entry_of.ensures refl c.push.ensures.entries (λ d o. refl) refl tt c.self.invariant.keeps;
     }
 
 pub returns-clause-ok : goal.returns-clause-ok
-returns-clause-ok c =
+returns-clause-ok g c =
     let s = c.self.inside in
     let len = c.len.ensures in
     let low = c.if-at-len.false in
@@ -104,10 +106,10 @@ returns-clause-ok c =
     let t = c.settle-outcome.ensures.settled in
     let is = c.settle-outcome.ensures.outcome ∙ decided_now (entries s.journal) s.documents.items t.was look c.args.prepared.decision c.self.invariant.book.stands t.at of none c.requires.decided in
     let e = c.entry_of.ensures ∙ ap (λ o. record { seat = c.args.by.seat; line = c.args.by.line; act = Committed look.doc look.token look.ticket o }) is in
-    rw (← c.self.view_is) (none, ap (λ l. record { journal = l; drivers = s.drivers }) (c.push.ensures.entries ∙ ap (λ (x : Entry). entries s.journal ++ x ∷ []) e))
+    rw (← c.self.view_is) (none, ap (λ l. record { journal = l; drivers = s.drivers; documents = g.K.Keeper.documents s.keeper; faults = g.K.Keeper.count s.keeper; start = s.start }) (c.push.ensures.entries ∙ ap (λ (x : Entry). entries s.journal ++ x ∷ []) e))
 
 pub unreachable-requires : goal.unreachable-requires
-unreachable-requires c =
+unreachable-requires g c =
     let s = c.self.inside in
     let j = entries s.journal in
     let len = c.len.ensures in
@@ -120,7 +122,7 @@ unreachable-requires c =
     absurd (cc)
 
 pub post-requires-clause-room : goal.post-requires-clause-room
-post-requires-clause-room c =
+post-requires-clause-room g c =
     let s = c.self.inside in
     let j = entries s.journal in
     let len = c.len.ensures in
@@ -135,7 +137,7 @@ post-requires-clause-room c =
     subst (λ n. HaveRoom n 1 s.rooms) (sym own) (room_for_one s.rooms j look.doc look.ticket _ (first look j c.self.invariant.book.stands.legal of none) c.self.invariant.roomed)
 
 pub post-requires-clause-sourced : goal.post-requires-clause-sourced
-post-requires-clause-sourced c =
+post-requires-clause-sourced g c =
     let s = c.self.inside in
     let j = entries s.journal in
     let len = c.len.ensures in

@@ -13,10 +13,11 @@ use Rattle.book.specs.Shown.{Shown}
 use Rattle.book.proofs.Booking.{quiet_by}
 use Rattle.book.proofs.Roomed.{roomed_quiet_by}
 use Rattle.book.proofs.Serving.{edited_client, may_edit}
+use Rattle.book.proofs.Stored.{keeps_by}
 use Rattle.book.proofs.book.Book.edit.Goals as goal
 
 pub edit-requires-clause-small : goal.edit-requires-clause-small
-edit-requires-clause-small c =
+edit-requires-clause-small g c =
     let j = entries c.self.inside.journal in
     let own : IsClientOf j c.args.client.now = subst (λ (v : Shown). IsClientOf v.journal c.args.client.now) (sym c.self.view_is) c.requires.client in
     let joined : c.args.client.now.now.state ≡ Joined = search (rules_, c.state.ensures, c.ne.ensures, c.if-ne.false) in
@@ -26,7 +27,7 @@ edit-requires-clause-small c =
     omega (arith, low, n, small)
 
 pub invariant_of-self-2 : goal.invariant_of-self-2
-invariant_of-self-2 c =
+invariant_of-self-2 g c =
     let s = c.self.inside in
     let j = entries s.journal in
     let own : IsClientOf j c.args.client.now = subst (λ (v : Shown). IsClientOf v.journal c.args.client.now) (sym c.self.view_is) c.requires.client in
@@ -36,10 +37,11 @@ invariant_of-self-2 c =
       book = quiet_by s.journal c.make_room.new.journal c.push.new.self s.documents.items s.moment s.moment s.tokens s.owed s.drivers c.in-Ok._sum c.args.by.seat c.args.by.line (Edited c.client-client.result c.in_ok-comp.comp) c.entry_of.result c.entry_of.ensures
           c.self.invariant.book c.make_room.ensures.entries c.in-Ok.ensures.room c.push.ensures.entries c.push.ensures.spare (subst (λ n. IsAllowed j c.args.by.seat (Edited n c.in_ok-comp.comp)) number (subst (λ x. IsAllowed j c.args.by.seat (Edited c.args.client.now.client x)) (sym ok.0) (may_edit j c.args.by.seat c.args.client.now c.args.edit.now own c.requires.edit ok.1))) tt refl refl c.self.invariant.book.now_low;
       roomed = roomed_quiet_by s.rooms j (entries c.make_room.new.journal) (entries c.push.new.self) c.args.by.seat c.args.by.line (Edited c.client-client.result c.in_ok-comp.comp) c.entry_of.result c.entry_of.ensures c.make_room.ensures.entries c.push.ensures.entries c.self.invariant.book.stands.legal tt refl (λ d. refl) c.self.invariant.roomed;
+      keeps = keeps_by j (entries c.make_room.new.journal) (entries c.push.new.self) c.args.by.seat c.args.by.line (Edited c.client-client.result c.in_ok-comp.comp) c.entry_of.result c.entry_of.ensures c.make_room.ensures.entries c.push.ensures.entries (λ d o. refl) refl tt c.self.invariant.keeps;
     }
 
 pub returns-clause-client : goal.returns-clause-client
-returns-clause-client c =
+returns-clause-client g c =
     let s = c.self.inside in
     let j = entries s.journal in
     let own : IsClientOf j c.args.client.now = subst (λ (v : Shown). IsClientOf v.journal c.args.client.now) (sym c.self.view_is) c.requires.client in

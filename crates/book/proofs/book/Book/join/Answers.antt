@@ -15,10 +15,11 @@ use Rattle.book.specs.Standing.{IsDocument}
 use Rattle.book.proofs.Booking.{quiet_by}
 use Rattle.book.proofs.Roomed.{roomed_joined, roomed_same}
 use Rattle.book.proofs.Serving.{joined_client}
+use Rattle.book.proofs.Stored.{keeps_by}
 use Rattle.book.proofs.book.Book.join.Goals as goal
 
 pub joined-requires : goal.joined-requires
-joined-requires c =
+joined-requires g c =
     let s = c.self.inside in
     let x = c.in-Some.document.now in
     let at : slice_get s.documents.items c.args.doc ≡ Some x = sym c.get.ensures ∙ ap option_copied c.in-Some.is in
@@ -27,7 +28,7 @@ joined-requires c =
     omega (arith, short, n)
 
 pub invariant_of-self-2 : goal.invariant_of-self-2
-invariant_of-self-2 c =
+invariant_of-self-2 g c =
     let s = c.self.inside in
     let j = entries s.journal in
     let x = c.in-Some.document.now in
@@ -47,10 +48,11 @@ invariant_of-self-2 c =
           c.self.invariant.book c.make_room.ensures.entries c.in-Ok-make_room.ensures.room c.push.ensures.entries c.push.ensures.spare row tt refl refl c.self.invariant.book.now_low;
       roomed = roomed_same c.join_with_room.new.self (j ++ c.entry_of.result ∷ []) (entries c.push.new.self) (c.push.ensures.entries ∙ ap (λ l. l ++ c.entry_of.result ∷ []) c.make_room.ensures.entries)
           (roomed_joined s.rooms c.join_with_room.new.self j c.entry_of.result c.client-number.result c.args.doc c.version-version.result (FIRST_SOURCE + c.len-source.result) c.len-waits.result c.in-Ok-Ok.named c.args.track None c.self.invariant.book.stands.legal (ap (λ (e : Entry). e.act) c.entry_of.ensures) (omega (arith, waits)) c.in-Ok-join_with_room.ensures.joined c.self.invariant.roomed);
+      keeps = keeps_by j (entries c.make_room.new.journal) (entries c.push.new.self) c.args.by.seat c.args.by.line (Joined c.client-number.result c.args.doc c.in-Ok-Ok.named c.args.track None (FIRST_SOURCE + c.len-source.result) c.version-version.result) c.entry_of.result c.entry_of.ensures c.make_room.ensures.entries c.push.ensures.entries (λ d o. refl) refl tt c.self.invariant.keeps;
     }
 
 pub returns-clause-ok : goal.returns-clause-ok
-returns-clause-ok c =
+returns-clause-ok g c =
     let s = c.self.inside in
     let j = entries s.journal in
     let x = c.in-Some.document.now in
@@ -66,10 +68,10 @@ returns-clause-ok c =
     let entry : c.entry_of.result ≡ entry_by c.args.by.seat c.args.by.line (Joined c.args.client.now.client c.args.doc c.args.user.now c.args.track None (source_at j) (version c.args.doc j)) = c.entry_of.ensures
     ∙ ap₂ (λ n u. entry_by c.args.by.seat c.args.by.line (Joined n c.args.doc u c.args.track None (FIRST_SOURCE + c.len-source.result) c.version-version.result)) c.client-number.ensures c.in-Ok-Ok.ensures'
     ∙ ap₂ (λ n v. entry_by c.args.by.seat c.args.by.line (Joined c.args.client.now.client c.args.doc c.args.user.now c.args.track None n v)) source v_is in
-    rw (← c.self.view_is) (made, ap (λ l. record { journal = l; drivers = s.drivers }) (c.push.ensures.entries ∙ ap₂ (λ (l : List Entry) (e : Entry). l ++ e ∷ []) c.make_room.ensures.entries entry))
+    rw (← c.self.view_is) (made, ap (λ l. record { journal = l; drivers = s.drivers; documents = g.K.Keeper.documents s.keeper; faults = g.K.Keeper.count s.keeper; start = s.start }) (c.push.ensures.entries ∙ ap₂ (λ (l : List Entry) (e : Entry). l ++ e ∷ []) c.make_room.ensures.entries entry))
 
 pub returns-clause-client : goal.returns-clause-client
-returns-clause-client c =
+returns-clause-client g c =
     let s = c.self.inside in
     let j = entries s.journal in
     let x = c.in-Some.document.now in

@@ -10,10 +10,11 @@ use Rattle.book.specs.Shown.{Shown}
 use Rattle.book.proofs.Booking.{quiet_by}
 use Rattle.book.proofs.Roomed.{roomed_left, roomed_same}
 use Rattle.book.proofs.Serving.{left_client, may_leave}
+use Rattle.book.proofs.Stored.{keeps_by}
 use Rattle.book.proofs.book.Book.leave.Goals as goal
 
 pub invariant_of-self-2 : goal.invariant_of-self-2
-invariant_of-self-2 c =
+invariant_of-self-2 g c =
     let s = c.self.inside in
     let j = entries s.journal in
     let own : IsClientOf j c.args.client.now = subst (λ (v : Shown). IsClientOf v.journal c.args.client.now) (sym c.self.view_is) c.requires in
@@ -23,10 +24,11 @@ invariant_of-self-2 c =
           c.self.invariant.book c.make_room.ensures.entries c.in-Ok.ensures.room c.push.ensures.entries c.push.ensures.spare (subst (λ n. IsAllowed j c.args.by.seat (Left n)) (sym c.client-number.ensures) (may_leave j c.args.by.seat c.args.client.now own there)) tt refl refl c.self.invariant.book.now_low;
       roomed = roomed_same c.leave.new.self (j ++ c.entry_of.result ∷ []) (entries c.push.new.self) (c.push.ensures.entries ∙ ap (λ l. l ++ c.entry_of.result ∷ []) c.make_room.ensures.entries)
           (roomed_left s.rooms c.leave.new.self j c.entry_of.result c.client-number.result c.self.invariant.book.stands.legal (ap (λ (e : Entry). e.act) c.entry_of.ensures) c.leave.ensures c.self.invariant.roomed);
+      keeps = keeps_by j (entries c.make_room.new.journal) (entries c.push.new.self) c.args.by.seat c.args.by.line (Left c.client-number.result) c.entry_of.result c.entry_of.ensures c.make_room.ensures.entries c.push.ensures.entries (λ d o. refl) refl tt c.self.invariant.keeps;
     }
 
 pub returns-clause-client : goal.returns-clause-client
-returns-clause-client c =
+returns-clause-client g c =
     let s = c.self.inside in
     let j = entries s.journal in
     let own : IsClientOf j c.args.client.now = subst (λ (v : Shown). IsClientOf v.journal c.args.client.now) (sym c.self.view_is) c.requires in

@@ -7,31 +7,32 @@ use Rattle.book.specs.Shown.{Shown}
 use Rattle.book.proofs.Roomed.{roomed_quiet_by}
 use Rattle.journal_entries.specs.declared.act.Act.TheVariants.{Made}
 use Rattle.book.proofs.Booking.{found_as, made_book, unnamed}
+use Rattle.book.proofs.Stored.{keeps_by}
 use Rattle.book.proofs.book.Book.make_doc.Goals as goal
 
 pub returns-in-Some-clause-refused : goal.returns-in-Some-clause-refused
-returns-in-Some-clause-refused c =
+returns-in-Some-clause-refused g c =
     let on = found_as c.args.name.now c.self.inside.documents.names (entries c.self.inside.journal) c.self.invariant.book.names_are in
     let is = c.self.view_is in
     search (rules, on, is)
 
 pub returns-in_default-made-clause-refused : goal.returns-in_default-made-clause-refused
-returns-in_default-made-clause-refused c =
+returns-in_default-made-clause-refused g c =
     let on = found_as c.args.name.now c.self.inside.documents.names (entries c.self.inside.journal) c.self.invariant.book.names_are in
     let is = c.self.view_is in
     search (rules, on, is)
 
 pub returns-in_default-make_room-clause-refused : goal.returns-in_default-make_room-clause-refused
-returns-in_default-make_room-clause-refused c =
+returns-in_default-make_room-clause-refused g c =
     let on = found_as c.args.name.now c.self.inside.documents.names (entries c.self.inside.journal) c.self.invariant.book.names_are in
     let is = c.self.view_is in
     search (rules, on, is)
 
 pub returns-in_default-add-clause-refused : goal.returns-in_default-add-clause-refused
-returns-in_default-add-clause-refused c = rw (← c.self.view_is) (sym (sym (found_as c.args.name.now c.self.inside.documents.names (entries c.self.inside.journal) c.self.invariant.book.names_are) ∙ sym c.find.ensures ∙ c.in_default.is))
+returns-in_default-add-clause-refused g c = rw (← c.self.view_is) (sym (sym (found_as c.args.name.now c.self.inside.documents.names (entries c.self.inside.journal) c.self.invariant.book.names_are) ∙ sym c.find.ensures ∙ c.in_default.is))
 
 pub invariant_of-self-2 : goal.invariant_of-self-2
-invariant_of-self-2 c =
+invariant_of-self-2 g c =
     let s = c.self.inside in
     let count = c.self.invariant.book.stands.count in
     let none = sym (found_as c.args.name.now c.self.inside.documents.names (entries c.self.inside.journal) c.self.invariant.book.names_are) ∙ sym c.find.ensures ∙ c.in_default.is in
@@ -43,10 +44,11 @@ invariant_of-self-2 c =
       book = rw (c.in-Ok-add.ensures.names, c.in-Ok-add.ensures.items, c.in-Ok.ensures.name) (made_book s.journal c.make_room.new.journal c.push.new.self s.documents.items c.in-Ok.document s.moment s.tokens s.owed s.drivers c.in-Ok-make_room._sum c.in-Ok.entry c.len-doc.result c.args.name.now c.args.project.now c.args.first.now c.args.base
           c.self.invariant.book c.make_room.ensures.entries c.in-Ok-make_room.ensures.room.0 c.in-Ok-make_room.ensures.room.1 c.push.ensures.entries c.push.ensures.spare (ap (λ (e : Entry). e.act) c.in-Ok.ensures.entry) making (omega (arith, few, count)) c.in-Ok.ensures.document);
       roomed = roomed_quiet_by s.rooms (entries s.journal) (entries c.make_room.new.journal) (entries c.push.new.self) c.args.by.seat c.args.by.line (Made c.len-doc.result c.args.name.now c.args.project.now c.args.first.now c.args.base) c.in-Ok.entry c.in-Ok.ensures.entry c.make_room.ensures.entries c.push.ensures.entries c.self.invariant.book.stands.legal tt refl (λ d. refl) c.self.invariant.roomed;
+      keeps = keeps_by (entries s.journal) (entries c.make_room.new.journal) (entries c.push.new.self) c.args.by.seat c.args.by.line (Made c.len-doc.result c.args.name.now c.args.project.now c.args.first.now c.args.base) c.in-Ok.entry c.in-Ok.ensures.entry c.make_room.ensures.entries c.push.ensures.entries (λ d o. refl) refl tt c.self.invariant.keeps;
     }
 
 pub returns-clause-made : goal.returns-clause-made
-returns-clause-made c =
+returns-clause-made g c =
     let count = c.self.invariant.book.stands.count in
     let none = sym (found_as c.args.name.now c.self.inside.documents.names (entries c.self.inside.journal) c.self.invariant.book.names_are) ∙ sym c.find.ensures ∙ c.in_default.is in
     let len = c.len-doc.ensures in

@@ -2,12 +2,14 @@ use Rattle.std.proofs.Common.{◌∙◌}
 use Rattle.journal_entries.specs.Journals.{entries}
 use Rattle.book.proofs.Booking.{new_book}
 use Rattle.book.proofs.Roomed.{roomed_none}
+use Rattle.book.proofs.Stored.{keeps_none}
 use Rattle.book.proofs.book.Book.new.Goals as goal
 
 pub invariant_of-result : goal.invariant_of-result
-invariant_of-result c =
+invariant_of-result g c =
     let empty = c.reserve.ensures.entries ∙ c.new-journal.ensures in
     record {
-      book = rw c.new.ensures (new_book c.reserve.new.self c.owed_at_first-owed.result c.args.drivers empty c.owed_at_first-owed.ensures c.in_ok-reserve.ensures.room);
+      book = rw c.new.ensures (new_book c.reserve.new.self c.owed_at_first-owed.result c.args.drivers empty c.owed_at_first-owed.ensures c.in-Ok.ensures.room);
       roomed = roomed_none c.new-2.result (entries c.reserve.new.self) empty c.new-2.ensures;
+      keeps = keeps_none (entries c.reserve.new.self) empty c.faults-start.ensures;
     }

@@ -2,4 +2,4 @@ use Rattle.std.proofs.Common.{sym}
 use Rattle.book.proofs.book.Book.ranges.Goals as goal
 
 pub returns : goal.returns
-returns c = sym c.document.ensures.tracked.ranges_are
+returns g c = sym c.document.ensures.tracked.ranges_are

@@ -17,31 +17,32 @@ use Rattle.book.proofs.Booking.{quiet_by}
 use Rattle.book.proofs.Lists.{same_item}
 use Rattle.book.proofs.Roomed.{first_told, none_told, roomed_got, roomed_same, sourced_if_told}
 use Rattle.book.proofs.Serving.{got_client, may_get}
+use Rattle.book.proofs.Stored.{keeps_by}
 use Rattle.book.proofs.book.Book.receive.Goals as goal
 
 pub returns-in_default-clause-first : goal.returns-in_default-clause-first
-returns-in_default-clause-first c =
+returns-in_default-clause-first g c =
     let none = none_told c.self.inside.rooms (entries c.self.inside.journal) c.client-number.result c.self.invariant.book.stands.legal c.self.invariant.roomed (sym c.next.ensures ∙ c.in_default.is) in
     rw (← c.self.view_is) (sym (ap (λ (l : List Msg). slice_get l 0) (ap (λ n. mail n (entries c.self.inside.journal)) (sym c.client-number.ensures) ∙ none)))
 
 pub unreachable-requires : goal.unreachable-requires
-unreachable-requires c = sourced_if_told c.self.inside.rooms c.client-number.result c.in-Some.place (sym c.next.ensures ∙ c.in-Some.is) (sym c.source.ensures ∙ c.in_default-source.is)
+unreachable-requires g c = sourced_if_told c.self.inside.rooms c.client-number.result c.in-Some.place (sym c.next.ensures ∙ c.in-Some.is) (sym c.source.ensures ∙ c.in_default-source.is)
 
 pub unreachable-requires-in_default-2 : goal.unreachable-requires-in_default-2
-unreachable-requires-in_default-2 c =
+unreachable-requires-in_default-2 g c =
     let j = entries c.self.inside.journal in
     let told = first_told c.self.inside.rooms j c.client-number.result c.in-Some.place c.in-Some-source.source c.self.invariant.book.stands.legal c.self.invariant.roomed (sym c.next.ensures ∙ c.in-Some.is) (sym c.source.ensures ∙ c.in-Some-source.is) in
     let f : None ≡ Some told.0 = sym c.in_default-2.is ∙ c.in_ok-message.ensures ∙ ap (λ l. told_at l c.in-Some-source.source c.in-Some.place) c.as_slice-entries.ensures ∙ told.2 in
     absurd (cc)
 
 pub on_message-requires-clause-own : goal.on_message-requires-clause-own
-on_message-requires-clause-own c =
+on_message-requires-clause-own g c =
     let j = entries c.self.inside.journal in
     let own : IsClientOf j c.args.client.now = subst (λ (v : Shown). IsClientOf v.journal c.args.client.now) (sym c.self.view_is) c.requires in
     subst IsAtEase (sym own) (at_ease c.args.client.now.client j c.self.invariant.book.stands.legal)
 
 pub on_message-requires-clause-sized : goal.on_message-requires-clause-sized
-on_message-requires-clause-sized c = λ alive.
+on_message-requires-clause-sized g c = λ alive.
     let j = entries c.self.inside.journal in
     let own : IsClientOf j c.args.client.now = subst (λ (v : Shown). IsClientOf v.journal c.args.client.now) (sym c.self.view_is) c.requires in
     let told = first_told c.self.inside.rooms j c.client-number.result c.in-Some.place c.in-Some-source.source c.self.invariant.book.stands.legal c.self.invariant.roomed (sym c.next.ensures ∙ c.in-Some.is) (sym c.source.ensures ∙ c.in-Some-source.is) in
@@ -52,7 +53,7 @@ on_message-requires-clause-sized c = λ alive.
     mail_sized c.args.client.now.client j c.in-Some-2.message told.1 c.self.invariant.book.stands.legal (omega (arith, few, len)) (ap (λ (s : rules.Client). rules.is_alive s.state) (sym own) ∙ alive) (ap (λ n. mail n j) (sym c.client-number.ensures) ∙ first)
 
 pub invariant_of-self-2 : goal.invariant_of-self-2
-invariant_of-self-2 c =
+invariant_of-self-2 g c =
     let s = c.self.inside in
     let j = entries s.journal in
     let told = first_told c.self.inside.rooms j c.client-number.result c.in-Some.place c.in-Some-source.source c.self.invariant.book.stands.legal c.self.invariant.roomed (sym c.next.ensures ∙ c.in-Some.is) (sym c.source.ensures ∙ c.in-Some-source.is) in
@@ -64,10 +65,11 @@ invariant_of-self-2 c =
           c.self.invariant.book c.make_room.ensures.entries c.in_ok-_sum.ensures.room c.push.ensures.entries c.push.ensures.spare (may_get j c.args.by.seat c.client-number.result c.in-Some-2.message told.1 first) tt refl refl c.self.invariant.book.now_low;
       roomed = roomed_same c.pop-place.new.self (j ++ c.entry_of.result ∷ []) (entries c.push.new.self) (c.push.ensures.entries ∙ ap (λ l. l ++ c.entry_of.result ∷ []) c.make_room.ensures.entries)
           (roomed_got s.rooms c.pop-place.new.self j c.entry_of.result c.client-number.result (brief_of c.in-Some-2.message) c.self.invariant.book.stands.legal (ap (λ (e : Entry). e.act) act) c.pop-place.ensures.rest c.self.invariant.roomed);
+      keeps = keeps_by j (entries c.make_room.new.journal) (entries c.push.new.self) c.args.by.seat c.args.by.line (Got c.client-number.result (brief_of c.in-Some-2.message)) c.entry_of.result act c.make_room.ensures.entries c.push.ensures.entries (λ d o. refl) refl tt c.self.invariant.keeps;
     }
 
 pub returns-clause-first : goal.returns-clause-first
-returns-clause-first c =
+returns-clause-first g c =
     let j = entries c.self.inside.journal in
     let told = first_told c.self.inside.rooms j c.client-number.result c.in-Some.place c.in-Some-source.source c.self.invariant.book.stands.legal c.self.invariant.roomed (sym c.next.ensures ∙ c.in-Some.is) (sym c.source.ensures ∙ c.in-Some-source.is) in
     let message : told.0 ≡ c.in-Some-2.message = same_item told.0 c.in-Some-2.message (sym told.2 ∙ sym (ap (λ l. told_at l c.in-Some-source.source c.in-Some.place) c.as_slice-entries.ensures) ∙ sym c.in_ok-message.ensures ∙ c.in-Some-2.is) in
@@ -75,7 +77,7 @@ returns-clause-first c =
     rw (← c.self.view_is) (sym (ap (λ (l : List Msg). slice_get l 0) (ap (λ n. mail n j) (sym c.client-number.ensures) ∙ first)))
 
 pub returns-clause-client : goal.returns-clause-client
-returns-clause-client c =
+returns-clause-client g c =
     let j = entries c.self.inside.journal in
     let own : IsClientOf j c.args.client.now = subst (λ (v : Shown). IsClientOf v.journal c.args.client.now) (sym c.self.view_is) c.requires in
     let told = first_told c.self.inside.rooms j c.client-number.result c.in-Some.place c.in-Some-source.source c.self.invariant.book.stands.legal c.self.invariant.roomed (sym c.next.ensures ∙ c.in-Some.is) (sym c.source.ensures ∙ c.in-Some-source.is) in

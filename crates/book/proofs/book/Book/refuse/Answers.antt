@@ -1,4 +1,4 @@
-use Rattle.std.proofs.Common.{rules, ◌≡◌, ◌∙◌, sym, ap, subst, arith}
+use Rattle.std.proofs.Common.{refl, rules, ◌≡◌, ◌∙◌, sym, ap, subst, arith}
 use Rattle.std.specs.Prelude.{Some, None}
 use Rattle.journal_entries.specs.Journals.{entries}
 use Rattle.journal_entries.specs.declared.act.Entry.{Entry}
@@ -15,24 +15,26 @@ use Rattle.turn_rules.specs.Locking.{staleness}
 use Rattle.book.specs.Shown.{Shown}
 use Rattle.book.specs.Calls.{MayRefuse}
 use Rattle.book.proofs.Locking.{told_by, told_unmade, held_owed, refused_book, some_waits}
+use Rattle.journal_entries.specs.declared.act.Act.TheVariants.{Committed}
+use Rattle.book.proofs.Stored.{keeps_by}
 use Rattle.book.proofs.book.Book.refuse.Goals as goal
 
 pub returns-then-at-len-clause-stale : goal.returns-then-at-len-clause-stale
-returns-then-at-len-clause-stale c =
+returns-then-at-len-clause-stale g c =
     let s = c.self.inside in
     let len = c.len.ensures in
     let high = c.if-at-len.true in
     rw (← c.self.view_is) (told_unmade s.journal s.documents.items s.moment s.tokens s.owed s.drivers c.args.doc c.args.token c.self.invariant.book (Some c.never_given.result) (omega (arith, len, high)) c.never_given.ensures)
 
 pub returns-in-Some-clause-stale : goal.returns-in-Some-clause-stale
-returns-in-Some-clause-stale c =
+returns-in-Some-clause-stale g c =
     let s = c.self.inside in
     let len = c.len.ensures in
     let low = c.if-at-len.false in
     rw (← c.self.view_is) (told_by s.journal s.documents.items s.moment s.tokens s.owed s.drivers c.args.doc c.args.token c.self.invariant.book (Some c.in-Some.stale) (omega (arith, len, low)) (λ d at. c.check.ensures d at ∙ c.in-Some.is))
 
 pub push-requires : goal.push-requires
-push-requires c =
+push-requires g c =
     let s = c.self.inside in
     let len = c.len.ensures in
     let low = c.if-at-len.false in
@@ -41,14 +43,14 @@ push-requires c =
     omega (arith, one, room)
 
 pub overflow_sub-self : goal.overflow_sub-self
-overflow_sub-self c =
+overflow_sub-self g c =
     let s = c.self.inside in
     let len = c.len.ensures in
     let low = c.if-at-len.false in
     held_owed s.journal s.documents.items s.moment s.tokens s.owed s.drivers c.args.doc c.args.token c.self.invariant.book (omega (arith, len, low)) (λ d at. c.check.ensures d at ∙ c.in_default.is)
 
 pub unqueue-requires-clause-waits : goal.unqueue-requires-clause-waits
-unqueue-requires-clause-waits c = λ d at.
+unqueue-requires-clause-waits g c = λ d at.
     let s = c.self.inside in
     let len = c.len.ensures in
     let low = c.if-at-len.false in
@@ -57,7 +59,7 @@ unqueue-requires-clause-waits c = λ d at.
     some_waits (entries s.journal) s.documents.items c.args.doc d c.args.ticket may.rest c.self.invariant.book.stands at may.first
 
 pub invariant_of-self : goal.invariant_of-self
-invariant_of-self c =
+invariant_of-self g c =
     let s = c.self.inside in
     let len = c.len.ensures in
     let low = c.if-at-len.false in
@@ -73,10 +75,11 @@ invariant_of-self c =
       book = book;
       roomed = roomed_committed j c.entry_of.result c.args.doc c.args.token c.args.ticket (Refused c.args.cause) u may.rest c.self.invariant.book.stands.legal (ap (λ (e : Entry). e.act) c.entry_of.ensures) may.first named own s.rooms c.post.new.rooms (entries c.push.new.self) c.push.ensures.entries book.stands.legal
           (λ k. c.post.ensures k ∙ ap (λ n. option_map (posted_by k u n (Refused c.args.cause)) (member k s.rooms)) c.len-length.ensures.value) c.self.invariant.roomed;
+      keeps = keeps_by j j (entries c.push.new.self) c.args.by.seat c.args.by.line (Committed c.args.doc c.args.token c.args.ticket (Refused c.args.cause)) c.entry_of.result c.entry_of.ensures refl c.push.ensures.entries (λ d o. refl) refl tt c.self.invariant.keeps;
     }
 
 pub returns-clause-ok : goal.returns-clause-ok
-returns-clause-ok c =
+returns-clause-ok g c =
     let s = c.self.inside in
     let len = c.len.ensures in
     let low = c.if-at-len.false in
@@ -84,7 +87,7 @@ returns-clause-ok c =
     rw (← c.self.view_is) (none, search rules)
 
 pub unreachable-requires : goal.unreachable-requires
-unreachable-requires c =
+unreachable-requires g c =
     let s = c.self.inside in
     let j = entries s.journal in
     let len = c.len.ensures in
@@ -96,7 +99,7 @@ unreachable-requires c =
     absurd (cc)
 
 pub post-requires-clause-room : goal.post-requires-clause-room
-post-requires-clause-room c =
+post-requires-clause-room g c =
     let s = c.self.inside in
     let j = entries s.journal in
     let len = c.len.ensures in
@@ -110,7 +113,7 @@ post-requires-clause-room c =
     subst (λ n. HaveRoom n 1 s.rooms) (sym own) (room_for_one s.rooms j c.args.doc c.args.ticket may.rest may.first c.self.invariant.roomed)
 
 pub post-requires-clause-sourced : goal.post-requires-clause-sourced
-post-requires-clause-sourced c =
+post-requires-clause-sourced g c =
     let s = c.self.inside in
     let j = entries s.journal in
     let len = c.len.ensures in

@@ -26,10 +26,11 @@ use Rattle.book.proofs.Lists.{none_within}
 use Rattle.book.proofs.Rejoining.{left_doc, left_high, left_sized, left_told, may_return, missed_caught, missed_sized}
 use Rattle.book.proofs.Roomed.{roomed_again, roomed_joined, roomed_same}
 use Rattle.book.proofs.Serving.{returned_client}
+use Rattle.book.proofs.Stored.{keeps_by, keeps_same}
 use Rattle.book.proofs.book.Book.rejoin.Goals as goal
 
 pub unreachable-requires-in_default-get : goal.unreachable-requires-in_default-get
-unreachable-requires-in_default-get c =
+unreachable-requires-in_default-get g c =
     let s = c.self.inside in
     let j = entries s.journal in
     let was = c.args.client.now in
@@ -43,7 +44,7 @@ unreachable-requires-in_default-get c =
     absurd (omega (arith, made, count, doc, high))
 
 pub overflow_sub-version : goal.overflow_sub-version
-overflow_sub-version c =
+overflow_sub-version g c =
     let s = c.self.inside in
     let j = entries s.journal in
     let was = c.args.client.now in
@@ -59,7 +60,7 @@ overflow_sub-version c =
     omega (arith, v, since, high)
 
 pub returns-then-version-since-gt-MAX_AGE-clause-refused : goal.returns-then-version-since-gt-MAX_AGE-clause-refused
-returns-then-version-since-gt-MAX_AGE-clause-refused c =
+returns-then-version-since-gt-MAX_AGE-clause-refused g c =
     let s = c.self.inside in
     let j = entries s.journal in
     let was = c.args.client.now in
@@ -75,7 +76,7 @@ returns-then-version-since-gt-MAX_AGE-clause-refused c =
     rw (← c.self.view_is) (left, omega (arith, since, test), v)
 
 pub returns-in_default-2-clause-refused : goal.returns-in_default-2-clause-refused
-returns-in_default-2-clause-refused c =
+returns-in_default-2-clause-refused g c =
     let s = c.self.inside in
     let j = entries s.journal in
     let was = c.args.client.now in
@@ -92,7 +93,7 @@ returns-in_default-2-clause-refused c =
     rw (← c.self.view_is) may
 
 pub returns-in_default-make_room-clause-refused : goal.returns-in_default-make_room-clause-refused
-returns-in_default-make_room-clause-refused c =
+returns-in_default-make_room-clause-refused g c =
     let s = c.self.inside in
     let j = entries s.journal in
     let was = c.args.client.now in
@@ -109,7 +110,7 @@ returns-in_default-make_room-clause-refused c =
     rw (← c.self.view_is) may
 
 pub returns-in_default-join_with_room-clause-refused : goal.returns-in_default-join_with_room-clause-refused
-returns-in_default-join_with_room-clause-refused c =
+returns-in_default-join_with_room-clause-refused g c =
     let s = c.self.inside in
     let j = entries s.journal in
     let was = c.args.client.now in
@@ -126,7 +127,7 @@ returns-in_default-join_with_room-clause-refused c =
     rw (← c.self.view_is) may
 
 pub returns-in_default-caught_up-clause-refused : goal.returns-in_default-caught_up-clause-refused
-returns-in_default-caught_up-clause-refused c =
+returns-in_default-caught_up-clause-refused g c =
     let s = c.self.inside in
     let j = entries s.journal in
     let was = c.args.client.now in
@@ -143,7 +144,7 @@ returns-in_default-caught_up-clause-refused c =
     rw (← c.self.view_is) may
 
 pub caught_up-requires-clause-own : goal.caught_up-requires-clause-own
-caught_up-requires-clause-own c =
+caught_up-requires-clause-own g c =
     let j = entries c.self.inside.journal in
     let was = c.args.client.now in
     let own : IsClientOf j was = subst (λ (v : Shown). IsClientOf v.journal was) (sym c.self.view_is) c.requires in
@@ -151,7 +152,7 @@ caught_up-requires-clause-own c =
     left_sized j was c.self.invariant.book.stands.legal own left
 
 pub caught_up-requires-clause-sized : goal.caught_up-requires-clause-sized
-caught_up-requires-clause-sized c =
+caught_up-requires-clause-sized g c =
     let s = c.self.inside in
     let j = entries s.journal in
     let was = c.args.client.now in
@@ -171,7 +172,7 @@ caught_up-requires-clause-sized c =
     subst (λ (ms : List Missed). All (λ (m : Missed). IsSized m.op) ms) (sym past) (missed_sized j was c.self.invariant.book.stands.legal own left x.window window may.1)
 
 pub invariant_of-self-in_default-caught_up : goal.invariant_of-self-in_default-caught_up
-invariant_of-self-in_default-caught_up c =
+invariant_of-self-in_default-caught_up g c =
     let s = c.self.inside in
     let j = entries s.journal in
     let was = c.args.client.now in
@@ -182,10 +183,11 @@ invariant_of-self-in_default-caught_up c =
       book = same_book s.journal c.make_room.new.journal s.documents.items s.documents.items s.moment s.tokens s.owed s.drivers c.self.invariant.book refl c.make_room.ensures.entries c.make_room.ensures.kept c.self.invariant.book.stands refl;
       roomed = roomed_same c.leave.new.self j (entries c.make_room.new.journal) c.make_room.ensures.entries
           (roomed_again s.rooms c.join_with_room.new.self c.leave.new.self j c.client-number.result c.in-Some-Some-Some.doc _ _ gone c.in-Ok-join_with_room.ensures.joined c.leave.ensures c.self.invariant.roomed);
+      keeps = keeps_same j (entries c.make_room.new.journal) c.make_room.ensures.entries c.self.invariant.keeps;
     }
 
 pub invariant_of-self-2 : goal.invariant_of-self-2
-invariant_of-self-2 c =
+invariant_of-self-2 g c =
     let s = c.self.inside in
     let j = entries s.journal in
     let was = c.args.client.now in
@@ -217,10 +219,11 @@ invariant_of-self-2 c =
           c.self.invariant.book c.make_room.ensures.entries c.in-Ok.ensures.room c.push.ensures.entries c.push.ensures.spare row tt refl refl c.self.invariant.book.now_low;
       roomed = roomed_same c.join_with_room.new.self (j ++ c.entry_of.result ∷ []) (entries c.push.new.self) (c.push.ensures.entries ∙ ap (λ l. l ++ c.entry_of.result ∷ []) c.make_room.ensures.entries)
           (roomed_joined s.rooms c.join_with_room.new.self j c.entry_of.result c.client-number.result c.in-Some-Some-Some.doc c.version-version.result (FIRST_SOURCE + c.len-source.result) c.len-waits.result c.in-Ok-Ok.user c.in-Some-Some-Some.track (Some c.version-since.result) c.self.invariant.book.stands.legal (ap (λ (e : Entry). e.act) c.entry_of.ensures) (omega (arith, waits)) c.in-Ok-join_with_room.ensures.joined c.self.invariant.roomed);
+      keeps = keeps_by j (entries c.make_room.new.journal) (entries c.push.new.self) c.args.by.seat c.args.by.line (back_act was.client was.now j) c.entry_of.result entry c.make_room.ensures.entries c.push.ensures.entries (λ d o. refl) refl tt c.self.invariant.keeps;
     }
 
 pub returns-clause-ok : goal.returns-clause-ok
-returns-clause-ok c =
+returns-clause-ok g c =
     let s = c.self.inside in
     let j = entries s.journal in
     let was = c.args.client.now in
@@ -245,10 +248,10 @@ returns-clause-ok c =
     ∙ ap₂ (λ u t. entry_by c.args.by.seat c.args.by.line (Joined was.client was.now.doc u t (Some c.version-since.result) (FIRST_SOURCE + c.len-source.result) c.version-version.result)) user track
     ∙ ap₂ (λ n m. entry_by c.args.by.seat c.args.by.line (Joined was.client was.now.doc was.now.user was.now.track (Some n) m c.version-version.result)) since source
     ∙ ap (λ n. entry_by c.args.by.seat c.args.by.line (Joined was.client was.now.doc was.now.user was.now.track (Some was.now.version) (source_at j) n)) v in
-    rw (← c.self.view_is) (may, ap (λ l. record { journal = l; drivers = s.drivers }) (c.push.ensures.entries ∙ ap₂ (λ (l : List Entry) (e : Entry). l ++ e ∷ []) c.make_room.ensures.entries entry))
+    rw (← c.self.view_is) (may, ap (λ l. record { journal = l; drivers = s.drivers; documents = g.K.Keeper.documents s.keeper; faults = g.K.Keeper.count s.keeper; start = s.start }) (c.push.ensures.entries ∙ ap₂ (λ (l : List Entry) (e : Entry). l ++ e ∷ []) c.make_room.ensures.entries entry))
 
 pub returns-clause-client : goal.returns-clause-client
-returns-clause-client c =
+returns-clause-client g c =
     let s = c.self.inside in
     let j = entries s.journal in
     let was = c.args.client.now in

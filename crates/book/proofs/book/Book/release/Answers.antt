@@ -9,24 +9,25 @@ use Rattle.book.proofs.Roomed.{roomed_quiet_by}
 use Rattle.journal_entries.specs.Journals.{entries}
 use Rattle.journal_entries.specs.declared.act.Act.TheVariants.{Released}
 use Rattle.book.proofs.Locking.{told_by, told_unmade, held_owed, stands_in, released_book}
+use Rattle.book.proofs.Stored.{keeps_by}
 use Rattle.book.proofs.book.Book.release.Goals as goal
 
 pub returns-then-at-len-clause-stale : goal.returns-then-at-len-clause-stale
-returns-then-at-len-clause-stale c =
+returns-then-at-len-clause-stale g c =
     let s = c.self.inside in
     let len = c.len.ensures in
     let high = c.if-at-len.true in
     rw (← c.self.view_is) (told_unmade s.journal s.documents.items s.moment s.tokens s.owed s.drivers c.args.doc c.args.token c.self.invariant.book (Some c.never_given.result) (omega (arith, len, high)) c.never_given.ensures)
 
 pub returns-in-Some-clause-stale : goal.returns-in-Some-clause-stale
-returns-in-Some-clause-stale c =
+returns-in-Some-clause-stale g c =
     let s = c.self.inside in
     let len = c.len.ensures in
     let low = c.if-at-len.false in
     rw (← c.self.view_is) (told_by s.journal s.documents.items s.moment s.tokens s.owed s.drivers c.args.doc c.args.token c.self.invariant.book (Some c.in-Some.stale) (omega (arith, len, low)) (λ d at. c.check.ensures d at ∙ c.in-Some.is))
 
 pub push-requires : goal.push-requires
-push-requires c =
+push-requires g c =
     let s = c.self.inside in
     let len = c.len.ensures in
     let low = c.if-at-len.false in
@@ -35,17 +36,17 @@ push-requires c =
     omega (arith, one, room)
 
 pub overflow_sub-self : goal.overflow_sub-self
-overflow_sub-self c =
+overflow_sub-self g c =
     let s = c.self.inside in
     let len = c.len.ensures in
     let low = c.if-at-len.false in
     held_owed s.journal s.documents.items s.moment s.tokens s.owed s.drivers c.args.doc c.args.token c.self.invariant.book (omega (arith, len, low)) (λ d at. c.check.ensures d at ∙ c.in_default.is)
 
 pub let_go-requires-clause-current : goal.let_go-requires-clause-current
-let_go-requires-clause-current c = λ d at. let s = stands_in d.lock c.args.token (c.check.ensures d at ∙ c.in_default.is) in (sym s.0, s.1)
+let_go-requires-clause-current g c = λ d at. let s = stands_in d.lock c.args.token (c.check.ensures d at ∙ c.in_default.is) in (sym s.0, s.1)
 
 pub invariant_of-self : goal.invariant_of-self
-invariant_of-self c =
+invariant_of-self g c =
     let s = c.self.inside in
     let len = c.len.ensures in
     let low = c.if-at-len.false in
@@ -55,10 +56,11 @@ invariant_of-self c =
     record {
       book = released_book s.journal c.push.new.self s.documents.items c.let_go.new.self.items s.moment s.tokens s.owed s.drivers c.args.doc c.args.token c.args.by.seat c.entry_of.result c.self.invariant.book c.let_go.ensures.names c.push.ensures.entries c.push.ensures.spare (ap (λ (e : Entry). e.seat) c.entry_of.ensures) (ap (λ (e : Entry). e.act) c.entry_of.ensures) may c.let_go.ensures.freed held.1;
       roomed = roomed_quiet_by s.rooms (entries s.journal) (entries s.journal) (entries c.push.new.self) c.args.by.seat c.args.by.line (Released c.args.doc c.args.token) c.entry_of.result c.entry_of.ensures refl c.push.ensures.entries c.self.invariant.book.stands.legal tt refl (λ d. refl) c.self.invariant.roomed;
+      keeps = keeps_by (entries s.journal) (entries s.journal) (entries c.push.new.self) c.args.by.seat c.args.by.line (Released c.args.doc c.args.token) c.entry_of.result c.entry_of.ensures refl c.push.ensures.entries (λ d o. refl) refl tt c.self.invariant.keeps;
     }
 
 pub returns-clause-ok : goal.returns-clause-ok
-returns-clause-ok c =
+returns-clause-ok g c =
     let s = c.self.inside in
     let len = c.len.ensures in
     let low = c.if-at-len.false in

@@ -16,10 +16,10 @@ use Rattle.book.proofs.Serving.{may_resend, own_doc, resends_joined, sent_client
 use Rattle.book.proofs.book.Book.resend.Goals as goal
 
 pub new-requires : goal.new-requires
-new-requires c = resends_joined c.args.client.now.now (sym c.refused_resend.ensures ∙ c.in_default.is)
+new-requires g c = resends_joined c.args.client.now.now (sym c.refused_resend.ensures ∙ c.in_default.is)
 
 pub reserve_waiting-requires : goal.reserve_waiting-requires
-reserve_waiting-requires c =
+reserve_waiting-requires g c =
     let s = c.self.inside in
     let j = entries s.journal in
     let own : IsClientOf j c.args.client.now = subst (λ (v : Shown). IsClientOf v.journal c.args.client.now) (sym c.self.view_is) c.requires in
@@ -30,19 +30,19 @@ reserve_waiting-requires c =
     omega (arith, made, count, doc)
 
 pub invariant_of-self-in_default-reserve_waiting : goal.invariant_of-self-in_default-reserve_waiting
-invariant_of-self-in_default-reserve_waiting c =
+invariant_of-self-in_default-reserve_waiting g c =
     let s = c.self.inside in
     reserved_book s.journal c.make_room.new.journal s.documents.items c.reserve_waiting.new.documents.items s.rooms c.reserve_waiting.new.rooms s.moment s.tokens s.owed s.drivers c.in-Ok.sender.doc
     c.self.invariant c.reserve_waiting.ensures.names c.make_room.ensures.entries c.make_room.ensures.kept c.reserve_waiting.ensures.kept c.reserve_waiting.ensures.roomier
 
 pub invariant_of-self-in_err-sent : goal.invariant_of-self-in_err-sent
-invariant_of-self-in_err-sent c =
+invariant_of-self-in_err-sent g c =
     let s = c.self.inside in
     reserved_book s.journal c.make_room.new.journal s.documents.items c.reserve_waiting.new.documents.items s.rooms c.reserve_waiting.new.rooms s.moment s.tokens s.owed s.drivers c.in-Ok.sender.doc
     c.self.invariant c.reserve_waiting.ensures.names c.make_room.ensures.entries c.make_room.ensures.kept c.reserve_waiting.ensures.kept c.reserve_waiting.ensures.roomier
 
 pub queue-requires-clause-within : goal.queue-requires-clause-within
-queue-requires-clause-within c =
+queue-requires-clause-within g c =
     let s = c.self.inside in
     let j = entries s.journal in
     let own : IsClientOf j c.args.client.now = subst (λ (v : Shown). IsClientOf v.journal c.args.client.now) (sym c.self.view_is) c.requires in
@@ -54,7 +54,7 @@ queue-requires-clause-within c =
     omega (arith, made, count, doc, many)
 
 pub invariant_of-self-2 : goal.invariant_of-self-2
-invariant_of-self-2 c =
+invariant_of-self-2 g c =
     let s = c.self.inside in
     let j = entries s.journal in
     let own : IsClientOf j c.args.client.now = subst (λ (v : Shown). IsClientOf v.journal c.args.client.now) (sym c.self.view_is) c.requires in
@@ -70,7 +70,7 @@ invariant_of-self-2 c =
     c.reserve_waiting.ensures.roomier (subst (λ d. (x : Document) → slice_get c.reserve_waiting.new.documents.items d ≡ Some x → HaveRoom d (length x.waiting.items + 1) c.reserve_waiting.new.rooms) doc c.in-Ok-reserve_waiting.ensures.told)
 
 pub returns-clause-client : goal.returns-clause-client
-returns-clause-client c =
+returns-clause-client g c =
     let s = c.self.inside in
     let j = entries s.journal in
     let own : IsClientOf j c.args.client.now = subst (λ (v : Shown). IsClientOf v.journal c.args.client.now) (sym c.self.view_is) c.requires in

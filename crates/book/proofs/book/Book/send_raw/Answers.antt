@@ -16,10 +16,11 @@ use Rattle.book.specs.Standing.{IsKeptAs, IsQueued, Turns}
 use Rattle.book.proofs.Booking.{quiet_by}
 use Rattle.book.proofs.Roomed.{roomed_quiet_by}
 use Rattle.book.proofs.Sending.{queued_book, reserved_book}
+use Rattle.book.proofs.Stored.{keeps_by}
 use Rattle.book.proofs.book.Book.send_raw.Goals as goal
 
 pub invariant_of-self-in-Err : goal.invariant_of-self-in-Err
-invariant_of-self-in-Err c =
+invariant_of-self-in-Err g c =
     let s = c.self.inside in
     let count = c.self.invariant.book.stands.count in
     let within = c.if-doc-len.false in
@@ -28,16 +29,17 @@ invariant_of-self-in-Err c =
       book = quiet_by s.journal c.make_room.new.journal c.push.new.self s.documents.items s.moment s.moment s.tokens s.owed s.drivers c.in-Ok-make_room._sum c.args.by.seat c.args.by.line (Malformed c.args.raw.now.doc c.in-Err.fault) c.entry_of.result c.entry_of.ensures
           c.self.invariant.book c.make_room.ensures.entries c.in-Ok-make_room.ensures.room c.push.ensures.entries c.push.ensures.spare (omega (arith, count, within, len)) tt refl refl c.self.invariant.book.now_low;
       roomed = roomed_quiet_by s.rooms (entries s.journal) (entries c.make_room.new.journal) (entries c.push.new.self) c.args.by.seat c.args.by.line (Malformed c.args.raw.now.doc c.in-Err.fault) c.entry_of.result c.entry_of.ensures c.make_room.ensures.entries c.push.ensures.entries c.self.invariant.book.stands.legal tt refl (λ d. refl) c.self.invariant.roomed;
+      keeps = keeps_by (entries s.journal) (entries c.make_room.new.journal) (entries c.push.new.self) c.args.by.seat c.args.by.line (Malformed c.args.raw.now.doc c.in-Err.fault) c.entry_of.result c.entry_of.ensures c.make_room.ensures.entries c.push.ensures.entries (λ d o. refl) refl tt c.self.invariant.keeps;
     }
 
 pub invariant_of-self-in_default-reserve_waiting : goal.invariant_of-self-in_default-reserve_waiting
-invariant_of-self-in_default-reserve_waiting c =
+invariant_of-self-in_default-reserve_waiting g c =
     let s = c.self.inside in
     reserved_book s.journal c.make_room-2.new.journal s.documents.items c.reserve_waiting.new.documents.items s.rooms c.reserve_waiting.new.rooms s.moment s.tokens s.owed s.drivers c.args.raw.now.doc
     c.self.invariant c.reserve_waiting.ensures.names c.make_room-2.ensures.entries c.make_room-2.ensures.kept c.reserve_waiting.ensures.kept c.reserve_waiting.ensures.roomier
 
 pub invariant_of-self-2 : goal.invariant_of-self-2
-invariant_of-self-2 c =
+invariant_of-self-2 g c =
     let s = c.self.inside in
     let count = c.self.invariant.book.stands.count in
     let within = c.if-doc-len.false in

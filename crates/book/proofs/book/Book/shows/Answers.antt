@@ -8,7 +8,7 @@ use Rattle.book.specs.Shown.{Shown}
 use Rattle.book.proofs.book.Book.shows.Goals as goal
 
 pub returns : goal.returns
-returns c = λ alive.
+returns g c = λ alive.
     let was = c.args.client.now in
     let j = entries c.self.inside.journal in
     let own : IsClientOf j was = subst (λ (v : Shown). IsClientOf v.journal was) (sym c.self.view_is) c.requires in

@@ -1,4 +1,4 @@
 use Rattle.book.proofs.book.Book.text.Goals as goal
 
 pub returns : goal.returns
-returns c = c.document.ensures.text_is
+returns g c = c.document.ensures.text_is

@@ -12,108 +12,108 @@ use Rattle.session_runner.proofs.Lines.{apart_behind, apart_raw, behind_doc, beh
 use Rattle.session_runner.proofs.driver.Driver.do_line.Goals as goal
 
 pub make-requires-clause-new : goal.make-requires-clause-new
-make-requires-clause-new c =
+make-requires-clause-new g c =
     let fit = subst (λ (l : Line). IsFit (makings c.args.self.now.book.journal) l) c.in-Doc.is c.requires.fit in
     none_found (λ m. is_named c.in-Doc.doc m) (makings c.args.self.now.book.journal) fit.0
 
 pub returns-in-Doc-clause-driver : goal.returns-in-Doc-clause-driver
-returns-in-Doc-clause-driver c =
+returns-in-Doc-clause-driver g c =
     on_ok c.make.result (λ is. made c.args.self.now c.make.new.book (Some c.args.number) (length (makings c.args.self.now.book.journal)) c.in-Doc.doc c.in-Doc.project c.in-Doc.text c.in-Doc.v c.requires.driver is) c.make.ensures
 
 pub returns-in-Doc-clause-behind : goal.returns-in-Doc-clause-behind
-returns-in-Doc-clause-behind c =
+returns-in-Doc-clause-behind g c =
     let old = c.args.self.now.book.journal in let new = c.make.new.book.journal in
     on_ok c.make.result (λ is. subst (λ (l : Line). IsBehind l old new) (sym c.in-Doc.is) (behind_doc (Some c.args.number) old new (length (makings old)) c.in-Doc.doc c.in-Doc.project c.in-Doc.text c.in-Doc.v (ap (λ (b : Shown). b.journal) is))) c.make.ensures
 
 pub returns-in-Tick-clause-driver : goal.returns-in-Tick-clause-driver
-returns-in-Tick-clause-driver c = on_ok c.tick.result (λ is. ticked c.args.self.now c.tick.new.book (Some c.args.number) c.in-Tick.ms c.requires.driver is) c.tick.ensures
+returns-in-Tick-clause-driver g c = on_ok c.tick.result (λ is. ticked c.args.self.now c.tick.new.book (Some c.args.number) c.in-Tick.ms c.requires.driver is) c.tick.ensures
 
 pub returns-in-Tick-clause-behind : goal.returns-in-Tick-clause-behind
-returns-in-Tick-clause-behind c =
+returns-in-Tick-clause-behind g c =
     let old = c.args.self.now.book.journal in let new = c.tick.new.book.journal in
     on_ok c.tick.result (λ is. subst (λ (l : Line). IsBehind l old new) (sym c.in-Tick.is) (behind_tick (Some c.args.number) old new c.in-Tick.session c.in-Tick.ms (ap (λ (b : Shown). b.journal) is))) c.tick.ensures
 
 pub returns-in-Some-clause-driver : goal.returns-in-Some-clause-driver
-returns-in-Some-clause-driver c = on_ok c.send_raw.result (λ is. sent c.args.self.now c.send_raw.new.book (Some c.args.number) (clock c.args.self.now.book.journal) _ c.requires.driver is) c.send_raw.ensures
+returns-in-Some-clause-driver g c = on_ok c.send_raw.result (λ is. sent c.args.self.now c.send_raw.new.book (Some c.args.number) (clock c.args.self.now.book.journal) _ c.requires.driver is) c.send_raw.ensures
 
 pub returns-in-Some-clause-behind : goal.returns-in-Some-clause-behind
-returns-in-Some-clause-behind c =
+returns-in-Some-clause-behind g c =
     let old = c.args.self.now.book.journal in let new = c.send_raw.new.book.journal in
     on_ok c.send_raw.result (λ is. subst (λ (l : Line). IsBehind l old new) (sym c.in-Raw.is) (apart_behind _ (next_token old) old new (λ ms. refl) refl (apart_raw (Some c.args.number) old new (next_token old) (clock old) _ (ap (λ (b : Shown). b.journal) is)))) c.send_raw.ensures
 
 pub returns-in-Raw-clause-driver : goal.returns-in-Raw-clause-driver
-returns-in-Raw-clause-driver c = on_ok c.decline.result (λ is. declined c.args.self.now c.decline.new.self (Some c.args.number) c.in-Raw.session NoDoc c.requires.driver is) c.decline.ensures.ok
+returns-in-Raw-clause-driver g c = on_ok c.decline.result (λ is. declined c.args.self.now c.decline.new.self (Some c.args.number) c.in-Raw.session NoDoc c.requires.driver is) c.decline.ensures.ok
 
 pub returns-in-Raw-clause-behind : goal.returns-in-Raw-clause-behind
-returns-in-Raw-clause-behind c =
+returns-in-Raw-clause-behind g c =
     let old = c.args.self.now.book.journal in let new = c.decline.new.self.journal in
     on_ok c.decline.result (λ is. subst (λ (l : Line). IsBehind l old new) (sym c.in-Raw.is)
     (apart_behind _ (next_token old) old new (λ ms. refl) refl (wrote (Some c.args.number) (next_token old) (Declined c.in-Raw.session NoDoc) old new refl (ap (λ (b : Shown). b.journal) is)))) c.decline.ensures.ok
 
 pub returns-in-Drain-clause-driver : goal.returns-in-Drain-clause-driver
-returns-in-Drain-clause-driver c = on_ok c.drain_named.result (λ g. drained c.args.self.now c.drain_named.new.book (Some c.args.number) g.0 g.1 c.requires.driver) (both_ok _ _ c.drain_named.result c.drain_named.ensures.drivers c.drain_named.ensures.apart)
+returns-in-Drain-clause-driver g c = on_ok c.drain_named.result (λ g. drained c.args.self.now c.drain_named.new.book (Some c.args.number) g.0 g.1 c.requires.driver) (both_ok _ _ c.drain_named.result c.drain_named.ensures.drivers c.drain_named.ensures.apart)
 
 pub returns-in-Drain-clause-behind : goal.returns-in-Drain-clause-behind
-returns-in-Drain-clause-behind c =
+returns-in-Drain-clause-behind g c =
     let old = c.args.self.now.book.journal in let new = c.drain_named.new.book.journal in
     on_ok c.drain_named.result (λ g. subst (λ (l : Line). IsBehind l old new) (sym c.in-Drain.is) (apart_behind _ (next_token old) old new (λ ms. refl) refl g)) c.drain_named.ensures.apart
 
 pub returns-in-Hold-clause-behind : goal.returns-in-Hold-clause-behind
-returns-in-Hold-clause-behind c =
+returns-in-Hold-clause-behind g c =
     let old = c.args.self.now.book.journal in let new = c.hold.new.self.book.journal in
     on_ok c.hold.result (λ g. subst (λ (l : Line). IsBehind l old new) (sym c.in-Hold.is) (apart_behind _ (next_token old) old new (λ ms. refl) refl g)) c.hold.ensures.apart
 
 pub returns-in-Finish-clause-behind : goal.returns-in-Finish-clause-behind
-returns-in-Finish-clause-behind c =
+returns-in-Finish-clause-behind g c =
     let old = c.args.self.now.book.journal in let new = c.finish.new.self.book.journal in
     on_ok c.finish.result (λ g. subst (λ (l : Line). IsBehind l old new) (sym c.in-Finish.is) (apart_behind _ 0 old new (λ ms. refl) refl g)) c.finish.ensures.apart
 
 pub returns-in-Join-clause-behind : goal.returns-in-Join-clause-behind
-returns-in-Join-clause-behind c =
+returns-in-Join-clause-behind g c =
     let old = c.args.self.now.book.journal in let new = c.join.new.self.book.journal in
     on_ok c.join.result (λ g. subst (λ (l : Line). IsBehind l old new) (sym c.in-Join.is) (quiet_behind _ c.in-Join.session old new (λ ms. refl) refl g)) c.join.ensures.quiet
 
 pub returns-in-Ins-clause-behind : goal.returns-in-Ins-clause-behind
-returns-in-Ins-clause-behind c =
+returns-in-Ins-clause-behind g c =
     let old = c.args.self.now.book.journal in let new = c.tell.new.self.book.journal in
     on_ok c.tell.result (λ g. subst (λ (l : Line). IsBehind l old new) (sym c.in-Ins.is) (quiet_behind _ c.in-Ins.session old new (λ ms. refl) refl g)) c.tell.ensures.quiet
 
 pub returns-in-Del-clause-behind : goal.returns-in-Del-clause-behind
-returns-in-Del-clause-behind c =
+returns-in-Del-clause-behind g c =
     let old = c.args.self.now.book.journal in let new = c.tell-in-Del.new.self.book.journal in
     on_ok c.tell-in-Del.result (λ g. subst (λ (l : Line). IsBehind l old new) (sym c.in-Del.is) (quiet_behind _ c.in-Del.session old new (λ ms. refl) refl g)) c.tell-in-Del.ensures.quiet
 
 pub returns-in-Com-clause-behind : goal.returns-in-Com-clause-behind
-returns-in-Com-clause-behind c =
+returns-in-Com-clause-behind g c =
     let old = c.args.self.now.book.journal in let new = c.tell-in-Com.new.self.book.journal in
     on_ok c.tell-in-Com.result (λ g. subst (λ (l : Line). IsBehind l old new) (sym c.in-Com.is) (quiet_behind _ c.in-Com.session old new (λ ms. refl) refl g)) c.tell-in-Com.ensures.quiet
 
 pub returns-in-Send-clause-behind : goal.returns-in-Send-clause-behind
-returns-in-Send-clause-behind c =
+returns-in-Send-clause-behind g c =
     let old = c.args.self.now.book.journal in let new = c.tell-in-Send.new.self.book.journal in
     on_ok c.tell-in-Send.result (λ g. subst (λ (l : Line). IsBehind l old new) (sym c.in-Send.is) (quiet_behind _ c.in-Send.session old new (λ ms. refl) refl g)) c.tell-in-Send.ensures.quiet
 
 pub returns-in-Resend-clause-behind : goal.returns-in-Resend-clause-behind
-returns-in-Resend-clause-behind c =
+returns-in-Resend-clause-behind g c =
     let old = c.args.self.now.book.journal in let new = c.tell-in-Resend.new.self.book.journal in
     on_ok c.tell-in-Resend.result (λ g. subst (λ (l : Line). IsBehind l old new) (sym c.in-Resend.is) (quiet_behind _ c.in-Resend.session old new (λ ms. refl) refl g)) c.tell-in-Resend.ensures.quiet
 
 pub returns-in-Recv-clause-behind : goal.returns-in-Recv-clause-behind
-returns-in-Recv-clause-behind c =
+returns-in-Recv-clause-behind g c =
     let old = c.args.self.now.book.journal in let new = c.tell-in-Recv.new.self.book.journal in
     on_ok c.tell-in-Recv.result (λ g. subst (λ (l : Line). IsBehind l old new) (sym c.in-Recv.is) (quiet_behind _ c.in-Recv.session old new (λ ms. refl) refl g)) c.tell-in-Recv.ensures.quiet
 
 pub returns-in-Leave-clause-behind : goal.returns-in-Leave-clause-behind
-returns-in-Leave-clause-behind c =
+returns-in-Leave-clause-behind g c =
     let old = c.args.self.now.book.journal in let new = c.tell-in-Leave.new.self.book.journal in
     on_ok c.tell-in-Leave.result (λ g. subst (λ (l : Line). IsBehind l old new) (sym c.in-Leave.is) (quiet_behind _ c.in-Leave.session old new (λ ms. refl) refl g)) c.tell-in-Leave.ensures.quiet
 
 pub returns-in-Rejoin-clause-behind : goal.returns-in-Rejoin-clause-behind
-returns-in-Rejoin-clause-behind c =
+returns-in-Rejoin-clause-behind g c =
     let old = c.args.self.now.book.journal in let new = c.tell-in-Rejoin.new.self.book.journal in
     on_ok c.tell-in-Rejoin.result (λ g. subst (λ (l : Line). IsBehind l old new) (sym c.in-Rejoin.is) (quiet_behind _ c.in-Rejoin.session old new (λ ms. refl) refl g)) c.tell-in-Rejoin.ensures.quiet
 
 pub returns-in-Sync-clause-behind : goal.returns-in-Sync-clause-behind
-returns-in-Sync-clause-behind c =
+returns-in-Sync-clause-behind g c =
     let old = c.args.self.now.book.journal in let new = c.sync.new.self.book.journal in
     on_ok c.sync.result (λ g. subst (λ (l : Line). IsBehind l old new) (sym c.in-Sync.is) (synced_behind _ (next_token old) c.in-Sync.session old new (λ ms. refl) refl g)) c.sync.ensures.goes

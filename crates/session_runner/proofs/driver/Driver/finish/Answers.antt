@@ -21,7 +21,7 @@ use Rattle.session_runner.proofs.Taking.{stale_why}
 use Rattle.session_runner.proofs.driver.Driver.finish.Goals as goal
 
 pub returns-in_default-clause-driver : goal.returns-in_default-clause-driver
-returns-in_default-clause-driver c =
+returns-in_default-clause-driver g c =
     let holds = c.args.self.now.holds.items in
     on_ok c.decline.result
     (λ is. let d = declined c.args.self.now c.decline.new.self (Some c.args.number) c.args.session Nothing c.requires.driver is in
@@ -29,29 +29,29 @@ returns-in_default-clause-driver c =
     c.decline.ensures.ok
 
 pub commit-requires-clause-seat : goal.commit-requires-clause-seat
-commit-requires-clause-seat c = sym (c.requires.driver.held.stands c.args.session c.in-Some.prepared c.in-Some.ensures.was).seat_is
+commit-requires-clause-seat g c = sym (c.requires.driver.held.stands c.args.session c.in-Some.prepared c.in-Some.ensures.was).seat_is
 
 pub commit-requires-clause-looked : goal.commit-requires-clause-looked
-commit-requires-clause-looked c = (c.requires.driver.held.stands c.args.session c.in-Some.prepared c.in-Some.ensures.was).looked
+commit-requires-clause-looked g c = (c.requires.driver.held.stands c.args.session c.in-Some.prepared c.in-Some.ensures.was).looked
 
 pub commit-requires-clause-decided : goal.commit-requires-clause-decided
-commit-requires-clause-decided c = (c.requires.driver.held.stands c.args.session c.in-Some.prepared c.in-Some.ensures.was).decided
+commit-requires-clause-decided g c = (c.requires.driver.held.stands c.args.session c.in-Some.prepared c.in-Some.ensures.was).decided
 
 pub release-requires : goal.release-requires
-release-requires c = record { may = λ none. may_release (Some c.args.number) c.args.session c.args.self.now c.in-Some.prepared c.requires.driver c.requires.session c.in-Some.ensures.was c.commit.new.self c.in-Ok.ensures.ok.0 c.in-Ok.ensures.ok.1 }
+release-requires g c = record { may = λ none. may_release (Some c.args.number) c.args.session c.args.self.now c.in-Some.prepared c.requires.driver c.requires.session c.in-Some.ensures.was c.commit.new.self c.in-Ok.ensures.ok.0 c.in-Ok.ensures.ok.1 }
 
 pub unreachable-requires : goal.unreachable-requires
-unreachable-requires c = not_stale (Some c.args.number) c.args.session c.args.self.now c.in-Some.prepared c.requires.driver c.requires.session c.in-Some.ensures.was c.commit.new.self c.in-Ok.ensures.ok.0 c.in-Ok.ensures.ok.1 c.in_default-release.field-0 c.in_default-release.ensures.stale
+unreachable-requires g c = not_stale (Some c.args.number) c.args.session c.args.self.now c.in-Some.prepared c.requires.driver c.requires.session c.in-Some.ensures.was c.commit.new.self c.in-Ok.ensures.ok.0 c.in-Ok.ensures.ok.1 c.in_default-release.field-0 c.in_default-release.ensures.stale
 
 pub returns-in-Ok-clause-finishes : goal.returns-in-Ok-clause-finishes
-returns-in-Ok-clause-finishes c =
+returns-in-Ok-clause-finishes g c =
     finishes (Some c.args.number) c.args.session c.args.self.now c.in-Some.prepared c.requires.driver c.requires.session c.in-Some.ensures.was c.commit.new.self c.in-Ok.ensures.ok.0 c.in-Ok.ensures.ok.1 c.release.new.self c.in-Ok-release.ensures.ok.2
 
 pub returns-in-Ok-clause-gives : goal.returns-in-Ok-clause-gives
-returns-in-Ok-clause-gives c = ap kept_in c.in-Some.ensures.now ∙ kept_set c.args.self.now.holds.items c.args.session None c.requires.session
+returns-in-Ok-clause-gives g c = ap kept_in c.in-Some.ensures.now ∙ kept_set c.args.self.now.holds.items c.args.session None c.requires.session
 
 pub returns-in-Ok-clause-driver : goal.returns-in-Ok-clause-driver
-returns-in-Ok-clause-driver c = record {
+returns-in-Ok-clause-driver g c = record {
   alone = ap (λ (b : Shown). b.drivers) c.in-Ok-release.ensures.ok.2 ∙ ap (λ (b : Shown). b.drivers) c.in-Ok.ensures.ok.1 ∙ c.requires.driver.alone;
   held = finished (Some c.args.number) c.args.session c.args.self.now c.in-Some.prepared c.requires.driver c.requires.session c.in-Some.ensures.was c.commit.new.self c.in-Ok.ensures.ok.0 c.in-Ok.ensures.ok.1 c.release.new.self c.in-Ok-release.ensures.ok.2
       c.give_up.new.holds.items c.in-Some.ensures.now;
@@ -60,14 +60,14 @@ returns-in-Ok-clause-driver c = record {
 }
 
 pub decline-requires-in-Err-Stale : goal.decline-requires-in-Err-Stale
-decline-requires-in-Err-Stale c =
+decline-requires-in-Err-Stale g c =
     let s = c.requires.driver.held.stands c.args.session c.in-Some.prepared c.in-Some.ensures.was in
     let p = c.in-Some.prepared in let old = c.args.self.now.book.journal in
     let e = subst (λ (f : CommitFault). MayNotCommit old p f) c.in-Err-Stale.field-0-is c.in-Err-Stale.ensures.refused in
     subst (λ (b : Shown). IsWhy b.journal 0 c.args.session (IsStale c.in-Err-Stale.stale)) (sym c.in-Err-Stale.ensures.kept) (stale_why p.look.doc p.look.token 0 c.args.session old s.last c.in-Err-Stale.stale s.made s.last_is e)
 
 pub returns-in-Err-Stale-clause-finishes : goal.returns-in-Err-Stale-clause-finishes
-returns-in-Err-Stale-clause-finishes c =
+returns-in-Err-Stale-clause-finishes g c =
     let p = c.in-Some.prepared in let old = c.args.self.now.book.journal in
     let e = subst (λ (f : CommitFault). MayNotCommit old p f) c.in-Err-Stale.field-0-is c.in-Err-Stale.ensures.refused in
     on_ok c.decline-in-Err-Stale.result
@@ -76,10 +76,10 @@ returns-in-Err-Stale-clause-finishes c =
     c.decline-in-Err-Stale.ensures.ok
 
 pub returns-in-Err-Stale-clause-gives : goal.returns-in-Err-Stale-clause-gives
-returns-in-Err-Stale-clause-gives c = on_ok c.decline-in-Err-Stale.result (λ is. ap kept_in c.in-Some.ensures.now ∙ kept_set c.args.self.now.holds.items c.args.session None c.requires.session) c.decline-in-Err-Stale.ensures.ok
+returns-in-Err-Stale-clause-gives g c = on_ok c.decline-in-Err-Stale.result (λ is. ap kept_in c.in-Some.ensures.now ∙ kept_set c.args.self.now.holds.items c.args.session None c.requires.session) c.decline-in-Err-Stale.ensures.ok
 
 pub returns-in-Err-Stale-clause-driver : goal.returns-in-Err-Stale-clause-driver
-returns-in-Err-Stale-clause-driver c =
+returns-in-Err-Stale-clause-driver g c =
     let holds = c.args.self.now.holds.items in let new = c.decline-in-Err-Stale.new.self in
     on_ok c.decline-in-Err-Stale.result
     (λ is. let d = declined c.args.self.now new (Some c.args.number) c.args.session (IsStale c.in-Err-Stale.stale) c.requires.driver

@@ -22,7 +22,7 @@ use Rattle.session_runner.proofs.Taking.{empty_why, held_up, holdable, none_wait
 use Rattle.session_runner.proofs.driver.Driver.hold.Goals as goal
 
 pub returns-then-is_kept-clause-holds : goal.returns-then-is_kept-clause-holds
-returns-then-is_kept-clause-holds c =
+returns-then-is_kept-clause-holds g c =
     let holds = c.args.self.now.holds.items in
     on_ok c.decline.result
     (λ is. holds_already (entry_by 0 (Some c.args.number)) c.args.session c.args.doc.now (kept_in holds c.args.session) (kept_in holds) c.args.self.now.book.journal c.decline.new.self.journal
@@ -30,10 +30,10 @@ returns-then-is_kept-clause-holds c =
     c.decline.ensures.ok
 
 pub returns-then-is_kept-clause-driver : goal.returns-then-is_kept-clause-driver
-returns-then-is_kept-clause-driver c = on_ok c.decline.result (λ is. declined c.args.self.now c.decline.new.self (Some c.args.number) c.args.session Holding c.requires.driver is) c.decline.ensures.ok
+returns-then-is_kept-clause-driver g c = on_ok c.decline.result (λ is. declined c.args.self.now c.decline.new.self (Some c.args.number) c.args.session Holding c.requires.driver is) c.decline.ensures.ok
 
 pub returns-in_default-clause-holds : goal.returns-in_default-clause-holds
-returns-in_default-clause-holds c =
+returns-in_default-clause-holds g c =
     let holds = c.args.self.now.holds.items in
     on_ok c.decline-in_default.result
     (λ is. holds_unnamed (entry_by 0 (Some c.args.number)) c.args.session c.args.doc.now (kept_in holds c.args.session) (kept_in holds) c.args.self.now.book.journal c.decline-in_default.new.self.journal
@@ -41,10 +41,10 @@ returns-in_default-clause-holds c =
     c.decline-in_default.ensures.ok
 
 pub returns-in_default-clause-driver : goal.returns-in_default-clause-driver
-returns-in_default-clause-driver c = on_ok c.decline-in_default.result (λ is. declined c.args.self.now c.decline-in_default.new.self (Some c.args.number) c.args.session NoDoc c.requires.driver is) c.decline-in_default.ensures.ok
+returns-in_default-clause-driver g c = on_ok c.decline-in_default.result (λ is. declined c.args.self.now c.decline-in_default.new.self (Some c.args.number) c.args.session NoDoc c.requires.driver is) c.decline-in_default.ensures.ok
 
 pub returns-in_ok-prepare-in-Ok-clause-holds : goal.returns-in_ok-prepare-in-Ok-clause-holds
-returns-in_ok-prepare-in-Ok-clause-holds c =
+returns-in_ok-prepare-in-Ok-clause-holds g c =
     let holds = c.args.self.now.holds.items in let session = c.args.session in let line = Some c.args.number in
     let old = c.args.self.now.book.journal in let new = c.acquire.new.self.journal in
     let doc = c.in-Some.doc in let look = c.in-Ok.look in let was = c.in-Ok.ensures in let p = c.in_ok-prepare-in-Ok.field-0 in
@@ -58,12 +58,12 @@ returns-in_ok-prepare-in-Ok-clause-holds c =
     (takes 0 line doc old new look is was.looks.0 was.looks.2 was.free was.cached) is keeps
 
 pub returns-in_ok-prepare-in-Ok-clause-apart : goal.returns-in_ok-prepare-in-Ok-clause-apart
-returns-in_ok-prepare-in-Ok-clause-apart c =
+returns-in_ok-prepare-in-Ok-clause-apart g c =
     let old = c.args.self.now.book.journal in
     wrote (Some c.args.number) (next_token old) (acquired c.in-Some.doc old) old c.acquire.new.self.journal refl (ap (λ (b : Shown). b.journal) c.in-Ok.ensures.acquired)
 
 pub returns-in_ok-prepare-in-Ok-clause-driver : goal.returns-in_ok-prepare-in-Ok-clause-driver
-returns-in_ok-prepare-in-Ok-clause-driver c =
+returns-in_ok-prepare-in-Ok-clause-driver g c =
     let holds = c.args.self.now.holds.items in let session = c.args.session in let line = Some c.args.number in
     let old = c.args.self.now.book.journal in let new = c.acquire.new.self.journal in
     let doc = c.in-Some.doc in let look = c.in-Ok.look in let was = c.in-Ok.ensures in let p = c.in_ok-prepare-in-Ok.field-0 in
@@ -73,14 +73,14 @@ returns-in_ok-prepare-in-Ok-clause-driver c =
       alone = ap (λ (b : Shown). b.drivers) was.acquired ∙ c.requires.driver.alone;
       held = subst (λ (hs : List (Option Prepared)). AreHeld hs new) (sym c.keep.ensures)
           (taken_up holds old new session p c.requires.session (keeps_none holds session c.is_kept.result c.requires.session c.is_kept.ensures c.if-is_kept.false)
-          (token_taken 0 line doc old new look is was.looks.0 was.looks.2 ∙ ap (λ (l : Snapshot). l.token) (sym look_is)) c.requires.driver.held (returns-in_ok-prepare-in-Ok-clause-apart c)
+          (token_taken 0 line doc old new look is was.looks.0 was.looks.2 ∙ ap (λ (l : Snapshot). l.token) (sym look_is)) c.requires.driver.held (returns-in_ok-prepare-in-Ok-clause-apart g c)
           (stands_taken 0 line doc old new look is was.looks.0 was.looks.2 p look_is refl was.free was.cached c.in_ok-prepare-in-Ok.ensures.decided));
-      clients = all_stay c.args.self.now.clients.items old new (same_clients (next_token old) old new (returns-in_ok-prepare-in-Ok-clause-apart c)) c.requires.driver.clients;
+      clients = all_stay c.args.self.now.clients.items old new (same_clients (next_token old) old new (returns-in_ok-prepare-in-Ok-clause-apart g c)) c.requires.driver.clients;
       many = c.requires.driver.many ∙ sym (ap length c.keep.ensures ∙ length-set holds session (Some p));
     }
 
 pub returns-in-Err-Empty-clause-holds : goal.returns-in-Err-Empty-clause-holds
-returns-in-Err-Empty-clause-holds c =
+returns-in-Err-Empty-clause-holds g c =
     let holds = c.args.self.now.holds.items in let old = c.args.self.now.book.journal in let doc = c.in-Some.doc in
     on_ok c.decline-in-Err-Empty.result
     (λ is. holds_why (entry_by 0 (Some c.args.number)) c.args.session c.args.doc.now (kept_in holds c.args.session) (kept_in holds) old c.decline-in-Err-Empty.new.self.journal doc Empty
@@ -90,12 +90,12 @@ returns-in-Err-Empty-clause-holds c =
     c.decline-in-Err-Empty.ensures.ok
 
 pub returns-in-Err-Empty-clause-driver : goal.returns-in-Err-Empty-clause-driver
-returns-in-Err-Empty-clause-driver c =
+returns-in-Err-Empty-clause-driver g c =
     on_ok c.decline-in-Err-Empty.result (λ is. declined c.args.self.now c.decline-in-Err-Empty.new.self (Some c.args.number) c.args.session Empty c.requires.driver
     (is ∙ ap (λ (b : Shown). adds b 0 (Some c.args.number) (Declined c.args.session Empty ∷ [])) c.in-Err-Empty.ensures.kept)) c.decline-in-Err-Empty.ensures.ok
 
 pub returns-in-Err-Busy-clause-holds : goal.returns-in-Err-Busy-clause-holds
-returns-in-Err-Busy-clause-holds c =
+returns-in-Err-Busy-clause-holds g c =
     let holds = c.args.self.now.holds.items in let old = c.args.self.now.book.journal in let doc = c.in-Some.doc in let b = c.in-Err-Busy.busy in
     on_ok c.decline-in-Err-Busy.result
     (λ is. holds_why (entry_by 0 (Some c.args.number)) c.args.session c.args.doc.now (kept_in holds c.args.session) (kept_in holds) old c.decline-in-Err-Busy.new.self.journal doc (Busy b)
@@ -106,7 +106,7 @@ returns-in-Err-Busy-clause-holds c =
     c.decline-in-Err-Busy.ensures.ok
 
 pub returns-in-Err-Busy-clause-driver : goal.returns-in-Err-Busy-clause-driver
-returns-in-Err-Busy-clause-driver c =
+returns-in-Err-Busy-clause-driver g c =
     on_ok c.decline-in-Err-Busy.result (λ is. declined c.args.self.now c.decline-in-Err-Busy.new.self (Some c.args.number) c.args.session (Busy c.in-Err-Busy.busy) c.requires.driver
     (is ∙ ap (λ (b : IsBusy). adds c.acquire.new.self 0 (Some c.args.number) (Declined c.args.session (Busy b) ∷ [])) c.in-Err-Busy.busy-is
     ∙ ap (λ (b : Shown). adds b 0 (Some c.args.number) (Declined c.args.session (Busy c.in-Err-Busy.busy) ∷ [])) c.in-Err-Busy.ensures.kept)) c.decline-in-Err-Busy.ensures.ok

@@ -10,7 +10,7 @@ use Rattle.session_runner.proofs.Owning.{get_there, joins_cached, own_act, own_d
 use Rattle.session_runner.proofs.driver.Driver.join.Goals as goal
 
 pub returns-clause-joins : goal.returns-clause-joins
-returns-clause-joins c =
+returns-clause-joins g c =
     let was = c.in-Some.client.now in
     let j = c.args.self.now.book.journal in
     let at : slice_get c.args.self.now.clients.items c.args.session ≡ Some was = get_there c.args.self.now.clients.items c.args.session was (subst (λ n. c.args.session < n) (sym c.requires.driver.many) c.requires.session) c.in-Some.ensures.value in
@@ -19,7 +19,7 @@ returns-clause-joins c =
     (both_ok _ _ c.join_named.result c.join_named.ensures.joins c.join_named.ensures.cached)
 
 pub returns-clause-driver : goal.returns-clause-driver
-returns-clause-driver c =
+returns-clause-driver g c =
     let was = c.in-Some.client.now in
     let j = c.args.self.now.book.journal in
     let at : slice_get c.args.self.now.clients.items c.args.session ≡ Some was = get_there c.args.self.now.clients.items c.args.session was (subst (λ n. c.args.session < n) (sym c.requires.driver.many) c.requires.session) c.in-Some.ensures.value in
@@ -28,7 +28,7 @@ returns-clause-driver c =
     (both_ok _ _ c.join_named.result c.join_named.ensures.joins c.join_named.ensures.client)
 
 pub returns-clause-quiet : goal.returns-clause-quiet
-returns-clause-quiet c =
+returns-clause-quiet g c =
     let was = c.in-Some.client.now in
     let j = c.args.self.now.book.journal in
     let at : slice_get c.args.self.now.clients.items c.args.session ≡ Some was = get_there c.args.self.now.clients.items c.args.session was (subst (λ n. c.args.session < n) (sym c.requires.driver.many) c.requires.session) c.in-Some.ensures.value in

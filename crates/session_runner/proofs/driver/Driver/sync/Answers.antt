@@ -10,7 +10,7 @@ use Rattle.session_runner.proofs.Owning.{get_there, synced_driver}
 use Rattle.session_runner.proofs.driver.Driver.sync.Goals as goal
 
 pub returns-clause-syncs : goal.returns-clause-syncs
-returns-clause-syncs c =
+returns-clause-syncs g c =
     let was = c.in-Some.client.now in
     let j = c.args.self.now.book.journal in
     let at : slice_get c.args.self.now.clients.items c.args.session ≡ Some was = get_there c.args.self.now.clients.items c.args.session was (subst (λ n. c.args.session < n) (sym c.requires.driver.many) c.requires.session) c.in-Some.ensures.value in
@@ -18,7 +18,7 @@ returns-clause-syncs c =
     on_ok c.sync_client.result (λ g. subst (λ n. Syncs (entry_by 0 c.args.by.line) Alone n j c.sync_client.new.book.journal) number g) c.sync_client.ensures.syncs
 
 pub returns-clause-driver : goal.returns-clause-driver
-returns-clause-driver c =
+returns-clause-driver g c =
     let was = c.in-Some.client.now in
     let j = c.args.self.now.book.journal in
     let at : slice_get c.args.self.now.clients.items c.args.session ≡ Some was = get_there c.args.self.now.clients.items c.args.session was (subst (λ n. c.args.session < n) (sym c.requires.driver.many) c.requires.session) c.in-Some.ensures.value in
@@ -28,7 +28,7 @@ returns-clause-driver c =
     (both_ok _ _ c.sync_client.result c.sync_client.ensures.drivers (both_ok _ _ c.sync_client.result c.sync_client.ensures.goes c.sync_client.ensures.client))
 
 pub returns-clause-goes : goal.returns-clause-goes
-returns-clause-goes c =
+returns-clause-goes g c =
     let was = c.in-Some.client.now in
     let j = c.args.self.now.book.journal in
     let at : slice_get c.args.self.now.clients.items c.args.session ≡ Some was = get_there c.args.self.now.clients.items c.args.session was (subst (λ n. c.args.session < n) (sym c.requires.driver.many) c.requires.session) c.in-Some.ensures.value in

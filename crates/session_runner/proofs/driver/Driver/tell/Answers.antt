@@ -8,7 +8,7 @@ use Rattle.session_runner.proofs.Owning.{get_there, own_act, own_driver, own_goe
 use Rattle.session_runner.proofs.driver.Driver.tell.Goals as goal
 
 pub returns-clause-driver : goal.returns-clause-driver
-returns-clause-driver c =
+returns-clause-driver g c =
     let was = c.in-Some.client.now in
     let j = c.args.self.now.book.journal in
     let at : slice_get c.args.self.now.clients.items c.args.session ≡ Some was = get_there c.args.self.now.clients.items c.args.session was (subst (λ n. c.args.session < n) (sym c.requires.driver.many) c.requires.session) c.in-Some.ensures.value in
@@ -17,7 +17,7 @@ returns-clause-driver c =
     (both_ok _ _ c.do_line.result c.do_line.ensures.does c.do_line.ensures.client)
 
 pub returns-clause-quiet : goal.returns-clause-quiet
-returns-clause-quiet c =
+returns-clause-quiet g c =
     let was = c.in-Some.client.now in
     let j = c.args.self.now.book.journal in
     let at : slice_get c.args.self.now.clients.items c.args.session ≡ Some was = get_there c.args.self.now.clients.items c.args.session was (subst (λ n. c.args.session < n) (sym c.requires.driver.many) c.requires.session) c.in-Some.ensures.value in

@@ -1,0 +1,185 @@
+-- What the keeper of a book holds, behind one entry more.
+use Rattle.std.proofs.Common.{◌≡◌, ◌≢◌, ◌⊎◌, inl, inr, ℕ, zero, suc, ◌+◌, ◌-◌, ◌≤◌, ◌<◌, List, [], ◌∷◌, ◌++◌, length, map, take, Bool, true, false, ◌||◌, refl, sym, ap, ap₂, ◌∙◌, subst, arith, eqb, append-nil, length-append, All}
+use Rattle.std.specs.Prelude.{slice_get, Option, Some, None, IsTrue, unwrap_or, if◌then◌else◌}
+use Rattle.std.specs.List.{list_any}
+use Rattle.std.proofs.lemmas.Bool.{or_parts}
+use Rattle.std.proofs.lemmas.Bool.Decides.{eqb_tells}
+use Rattle.std.proofs.lemmas.List.{map-append, take-append-le, length-map}
+use Rattle.std.proofs.lemmas.List.Elements.{All-append}
+use Rattle.std.proofs.lemmas.Slice.Eq.{bytes_eq-Decides}
+use Rattle.ot_op.specs.declared.comp.Comp.{Comp}
+use Rattle.ot_parts.specs.Lines.{lines_of}
+use Rattle.ranges_tracker.specs.Cells.{Row, plain_row}
+use Rattle.ranges_tracker.specs.Kept.{Kept}
+use Rattle.ranges_tracker.specs.Shown.{shown}
+use Rattle.keeper.specs.Documents.{Sets, document_of}
+use Rattle.journal_entries.specs.declared.act.Act.{Act}
+use Rattle.journal_entries.specs.declared.act.Act.TheVariants.{Made, Flushed, FlushFailed}
+use Rattle.journal_entries.specs.declared.act.Entry.{Entry}
+use Rattle.journal_rules.specs.Documents.{IsMade, Item, Making, applied_list, base, base_in, first_in, is_named, items_by, making, making_of, makings, name, name_in, operations, replayed, text_at, version}
+use Rattle.journal_rules.specs.Keeping.{fault_of, faults, kept, kept_by}
+use Rattle.journal_rules.specs.Legal.{IsAllowed, IsLegal}
+use Rattle.journal_rules.specs.Tracking.{cells_at, tracked}
+use Rattle.journal_rules.proofs.Fencing.{made_stays, making_stays}
+use Rattle.journal_rules.proofs.Legality.{Keeps, by_last, last_or, seam}
+use Rattle.journal_rules.proofs.Lists.{some_same}
+use Rattle.journal_rules.proofs.Pushing.{applied_list-push, faults-none, faults-push, kept-none, kept-push, makings-none, makings-push}
+use Rattle.journal_rules.proofs.Waits.{all_map, all_none, all_one}
+use Rattle.book.specs.Stored.{AreStored, BeganBy, IsKeeping, IsStored, kept_document}
+
+-- ---- two documents have two names
+abbrev AreApart : List Making → Type 0
+AreApart ms = (a b : ℕ) (x y : Making) → slice_get ms a ≡ Some x → slice_get ms b ≡ Some y → x.name ≡ y.name → a ≡ b
+
+not_named : (called : List ℕ) (ms : List Making) (i : ℕ) (x : Making) → list_any (λ m. is_named called m) ms ≡ false → slice_get ms i ≡ Some x → called ≡ x.name → ⊥
+not_named called [] i x none at same = absurd (cc)
+not_named called (m ∷ ms) zero x none at same =
+    let here : is_named called m ≡ true = (bytes_eq-Decides called m.name).1 (same ∙ ap (λ (y : Making). y.name) (sym (some_same m x at))) in
+    let apart = (or_parts (is_named called m) (list_any (λ m. is_named called m) ms) none).0 in
+    absurd (cc)
+not_named called (m ∷ ms) (suc i) x none at same = not_named called ms i x (or_parts (is_named called m) (list_any (λ m. is_named called m) ms) none).1 at same
+
+apart_more : (ms : List Making) (m : Making) → list_any (λ x. is_named m.name x) ms ≡ false → AreApart ms → AreApart (ms ++ m ∷ [])
+apart_more ms m new apart a b x y at_a at_b same = by (last_or ms m a x at_a) (last_or ms m b y at_b)
+  where
+    by : (slice_get ms a ≡ Some x) ⊎ ((a ≡ length ms) × (x ≡ m)) → (slice_get ms b ≡ Some y) ⊎ ((b ≡ length ms) × (y ≡ m)) → a ≡ b
+    by (inl s) (inl t) = apart a b x y s t same
+    by (inr s) (inr t) = s.0 ∙ sym t.0
+    by (inl s) (inr t) = absurd (not_named m.name ms a x new s (sym (same ∙ ap (λ (z : Making). z.name) t.1)))
+    by (inr s) (inl t) = absurd (not_named m.name ms b y new t (sym (ap (λ (z : Making). z.name) s.1) ∙ same))
+
+names_apart : (j : List Entry) → IsLegal j → AreApart (makings j)
+names_apart = by_last (λ j. AreApart (makings j)) none more
+  where
+    none : AreApart (makings [])
+    none = subst AreApart (sym makings-none) (λ a b x y at_a at_b same. absurd (cc))
+
+    one : (h : List Entry) (seat : ℕ) (a : Act) → IsAllowed h seat a → AreApart (makings h) → AreApart (makings h ++ making_of a)
+    one h seat (Made doc called project first base) may were = apart_more (makings h) _ may.new were
+    one h seat _ may were = subst AreApart (sym (append-nil (makings h))) were
+
+    more : Keeps (λ j. AreApart (makings j))
+    more h e legal may were = subst AreApart (sym (makings-push h e)) (one h e.seat e.act may were)
+
+made_at : (ms : List Making) (i : ℕ) → i < length ms → (m : Making) × (slice_get ms i ≡ Some m)
+made_at [] i lt = absurd (omega (arith, lt))
+made_at (m ∷ ms) zero lt = (m, refl)
+made_at (m ∷ ms) (suc i) lt = made_at ms i (omega (arith, lt))
+
+pub names_differ : (j : List Entry) (a b : ℕ) → IsLegal j → IsMade a j → IsMade b j → a ≢ b → name a j ≢ name b j
+names_differ j a b legal made_a made_b apart same =
+    let x = made_at (makings j) a made_a in
+    let y = made_at (makings j) b made_b in
+    apart (names_apart j legal a b x.0 y.0 x.1 y.1 (sym (ap name_in x.1) ∙ same ∙ ap name_in y.1))
+
+-- ---- what stands at a version stays
+module _ (docs : List (List ℕ × Kept)) (d v : ℕ) (j : List Entry) (e : Entry) where
+  pub stays_stored : IsStored docs d v j → IsStored docs d v (j ++ e ∷ [])
+  stays_stored was = record {
+    made = made_stays d j e was.made;
+    low = (let n = ap₂ (λ (o : Option Making) (l : List Item). base_in o + length l) same items in let l = length-append (applied_list d j) (items_by d j e.act) in let w = was.low in omega (arith, n, l, w));
+    there = ap (λ (o : Option Making). document_of (name_in o) docs) same ∙ was.there ∙ ap (λ (x : Kept). Some x) (sym whole);
+  }
+    where
+      same : making d (j ++ e ∷ []) ≡ making d j
+      same = making_stays d j e was.made
+
+      items : applied_list d (j ++ e ∷ []) ≡ applied_list d j ++ items_by d j e.act
+      items = applied_list-push d j e
+
+      within : v - base d j ≤ length (applied_list d j)
+      within = let w = was.low in omega (arith, w)
+
+      taken : take (v - base d j) (applied_list d j ++ items_by d j e.act) ≡ take (v - base d j) (applied_list d j)
+      taken = take-append-le (v - base d j) (applied_list d j) (items_by d j e.act) within
+
+      ops : take (v - base d j) (map (λ (x : Item). x.op) (applied_list d j ++ items_by d j e.act)) ≡ take (v - base d j) (map (λ (x : Item). x.op) (applied_list d j))
+      ops = ap (take (v - base d j)) (map-append (λ (x : Item). x.op) (applied_list d j) (items_by d j e.act))
+          ∙ take-append-le (v - base d j) (map (λ (x : Item). x.op) (applied_list d j)) (map (λ (x : Item). x.op) (items_by d j e.act)) (let n = length-map (applied_list d j) (λ (x : Item). x.op) in let w = within in omega (arith, n, w))
+
+      text_same : text_at d v (j ++ e ∷ []) ≡ text_at d v j
+      text_same = ap₂ (λ (o : Option Making) (l : List Item). replayed (first_in o) (take (v - base_in o) (map (λ (x : Item). x.op) l))) same items ∙ ap (replayed (first_in (making d j))) ops
+
+      cells_same : cells_at d v (j ++ e ∷ []) ≡ cells_at d v j
+      cells_same = ap₂ (λ (o : Option Making) (l : List Item). tracked (plain_row (first_in o)) (take (v - base_in o) l)) same items ∙ ap (tracked (plain_row (first_in (making d j)))) taken
+
+      whole : kept_document d v (j ++ e ∷ []) ≡ kept_document d v j
+      whole = ap₂ (λ (t : Option (List ℕ)) (r : Row). record { lines = lines_of (unwrap_or t []); version = v; ranges = shown r }) text_same cells_same
+
+-- ---- an entry that puts nothing
+module _ {tells : Bool} {docs : List (List ℕ × Kept)} {count start : ℕ} where
+  pub keeps_same : (before after : List Entry) → after ≡ before → IsKeeping tells docs count start before → IsKeeping tells docs count start after
+  keeps_same before after same was = subst (IsKeeping tells docs count start) (sym same) was
+
+  pub keeps_push : (j : List Entry) (e : Entry) → ((d : ℕ) (o : Option ℕ) → kept_by d e.act o ≡ o) → fault_of e.act ≡ [] → BeganBy start e.act → IsKeeping tells docs count start j → IsKeeping tells docs count start (j ++ e ∷ [])
+  keeps_push j e puts_none no_fault began was = record {
+    stored = λ told d v is. stays_stored docs d v j e (was.stored told d v (sym (kept-push d j e ∙ puts_none d (kept d j)) ∙ is));
+    later = was.later;
+    began = All-append (λ (x : Entry). BeganBy start x.act) j (e ∷ []) was.began (all_one (λ (x : Entry). BeganBy start x.act) e began);
+    ended = subst (λ (l : List ℕ). All (λ end. end ≤ count) l) (sym (faults-push j e ∙ ap (λ l. faults j ++ l) no_fault ∙ append-nil (faults j))) was.ended;
+  }
+
+  pub keeps_by : (before mid after : List Entry) (seat : ℕ) (line : Option ℕ) (act : Act) (e : Entry) → e ≡ record { seat = seat; line = line; act = act } → mid ≡ before → after ≡ mid ++ e ∷ []
+      → ((d : ℕ) (o : Option ℕ) → kept_by d act o ≡ o) → fault_of act ≡ [] → BeganBy start act → IsKeeping tells docs count start before → IsKeeping tells docs count start after
+  keeps_by before mid after seat line act e e_is same more puts_none no_fault began was =
+      subst (IsKeeping tells docs count start) (sym (more ∙ ap₂ (λ (l : List Entry) (x : Entry). l ++ x ∷ []) same e_is))
+      (keeps_push before (record { seat = seat; line = line; act = act }) puts_none no_fault began was)
+
+  -- no entries
+  pub keeps_none : (j : List Entry) → j ≡ [] → start ≡ count → IsKeeping tells docs count start j
+  keeps_none j empty same = subst (IsKeeping tells docs count start) (sym empty) (record {
+    stored = λ told d v is. (let f : None ≡ Some v = sym (kept-none d) ∙ is in absurd (cc));
+    later = omega (arith, same);
+    began = all_none (λ (x : Entry). BeganBy start x.act);
+    ended = subst (λ (l : List ℕ). All (λ end. end ≤ count) l) (sym faults-none) (all_none (λ end. end ≤ count));
+  })
+
+-- ---- the keeper was asked
+grown : (count count' : ℕ) (ends : List ℕ) → count ≤ count' → All (λ end. end ≤ count) ends → All (λ end. end ≤ count') ends
+grown count count' ends later low = all_map (λ end. end ≤ count) (λ end. end ≤ count') ends (λ end le. omega (arith, le, later)) low
+
+module _ {tells : Bool} {docs docs' : List (List ℕ × Kept)} {count count' start : ℕ} (j : List Entry) (was : IsKeeping tells docs count start j) where
+  -- and put nothing
+  pub keeps_asked : (IsTrue tells → docs' ≡ docs) → count ≤ count' → IsKeeping tells docs' count' start j
+  keeps_asked same later = record {
+    stored = λ told. subst (λ (l : List (List ℕ × Kept)). AreStored l j) (sym (same told)) (was.stored told);
+    later = (let l = was.later in omega (arith, l, later));
+    began = was.began;
+    ended = grown count count' (faults j) later was.ended;
+  }
+
+  -- which is noted
+  pub keeps_failed : (e : Entry) (doc token from to : ℕ) → e.act ≡ FlushFailed doc token from to → (IsTrue tells → docs' ≡ docs) → count ≤ count' → start ≤ from → to ≤ count' → IsKeeping tells docs' count' start (j ++ e ∷ [])
+  keeps_failed e doc token from to is same later low high = record {
+    stored = λ told d v at. stays_stored docs' d v j e (here.stored told d v (sym (kept-push d j e ∙ ap (λ a. kept_by d a (kept d j)) is) ∙ at));
+    later = here.later;
+    began = All-append (λ (x : Entry). BeganBy start x.act) j (e ∷ []) was.began (all_one (λ (x : Entry). BeganBy start x.act) e (subst (BeganBy start) (sym is) low));
+    ended = subst (λ (l : List ℕ). All (λ end. end ≤ count') l) (sym (faults-push j e ∙ ap (λ a. faults j ++ fault_of a) is)) (All-append (λ end. end ≤ count') (faults j) (to ∷ []) (grown count count' (faults j) later was.ended) (all_one (λ end. end ≤ count') to high));
+  }
+    where
+      here : IsKeeping tells docs' count' start j
+      here = keeps_asked same later
+
+  -- a document was put at its version
+  pub keeps_put : (e : Entry) (doc token v : ℕ) (put : Kept) → e.act ≡ Flushed doc token v → IsLegal j → IsMade doc j → v ≡ version doc j → put ≡ kept_document doc v j
+      → (IsTrue tells → Sets (name doc j) put docs docs') → count ≤ count' → IsKeeping tells docs' count' start (j ++ e ∷ [])
+  keeps_put e doc token v put is legal made at put_is set later = record {
+    stored = λ told d n kept_is. stays_stored docs' d n j e (by told d n (eqb_tells doc d) (sym (kept-push d j e ∙ ap (λ a. kept_by d a (kept d j)) is) ∙ kept_is));
+    later = (let l = was.later in omega (arith, l, later));
+    began = All-append (λ (x : Entry). BeganBy start x.act) j (e ∷ []) was.began (all_one (λ (x : Entry). BeganBy start x.act) e (subst (BeganBy start) (sym is) tt));
+    ended = subst (λ (l : List ℕ). All (λ end. end ≤ count') l) (sym (faults-push j e ∙ ap (λ a. faults j ++ fault_of a) is ∙ append-nil (faults j))) (grown count count' (faults j) later was.ended);
+  }
+    where
+      by : IsTrue tells → (d n : ℕ) → ((eqb doc d ≡ true) × (doc ≡ d)) ⊎ ((eqb doc d ≡ false) × (doc ≢ d)) → (if eqb doc d then Some v else kept d j) ≡ Some n → IsStored docs' d n j
+      by told d n (inl t) here =
+          let n_is : v ≡ n = some_same v n (sym (ap (λ b. if b then Some v else kept d j) t.0) ∙ here) in
+          let there : document_of (name doc j) docs' ≡ Some (kept_document doc v j) = (set told).set ∙ ap (λ (x : Kept). Some x) put_is in
+          let whole : IsStored docs' doc v j = record { made = made; low = (let a = at in omega (arith, a)); there = there } in
+          subst (λ m. IsStored docs' d m j) n_is (subst (λ m. IsStored docs' m v j) t.1 whole)
+      by told d n (inr t) here =
+          let old = was.stored told d n (sym (ap (λ b. if b then Some v else kept d j) t.0) ∙ here) in
+          record {
+            made = old.made;
+            low = old.low;
+            there = (set told).others (name d j) (names_differ j d doc legal old.made made (λ same. t.1 (sym same))) ∙ old.there;
+          }

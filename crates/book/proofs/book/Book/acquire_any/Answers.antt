@@ -1,0 +1,138 @@
+use Rattle.std.proofs.Common.{rules, ◌≡◌, ◌∙◌, ◌+◌, refl, sym, ap, subst, arith, [], ◌∷◌, ◌++◌, true}
+use Rattle.std.specs.Prelude.{slice_get, Some, None}
+use Rattle.std.specs.Option.{option_copied}
+use Rattle.std.proofs.lemmas.Option.{slice_get_within}
+use Rattle.expiring_lock.specs.Locks.{IsUnexpired}
+use Rattle.expiring_lock.specs.declared.lock.TheConstants.{LOCK_LIFE}
+use Rattle.journal_entries.specs.Journals.{entries}
+use Rattle.journal_entries.specs.declared.act.Act.TheVariants.{Acquired}
+use Rattle.journal_entries.specs.declared.act.Entry.{Entry}
+use Rattle.journal_rules.specs.Documents.{IsMade}
+use Rattle.journal_rules.specs.Legal.{IsAcquiring}
+use Rattle.journal_rules.specs.Locks.{next_token}
+use Rattle.book.specs.declared.document.Document.{Document}
+use Rattle.book.specs.declared.faults.KeptLook.{KeptLook}
+use Rattle.book.specs.Flushing.{IsKeptLook}
+use Rattle.book.specs.Standing.{IsLocked}
+use Rattle.book.proofs.Keeping.{here_acquired}
+use Rattle.book.proofs.Lists.{same_item}
+use Rattle.book.proofs.Locking.{acquired_book, may_acquire, token_below}
+use Rattle.book.proofs.Putting.{any_busy, any_free, may_keep, taken_up}
+use Rattle.book.proofs.Roomed.{roomed_quiet_by}
+use Rattle.book.proofs.Stored.{keeps_by}
+use Rattle.book.proofs.Tokens.{acquirings_short}
+use Rattle.book.proofs.book.Book.acquire_any.Goals as goal
+
+pub returns-in-Some-busy-clause-refused : goal.returns-in-Some-busy-clause-refused
+returns-in-Some-busy-clause-refused g c =
+    let s = c.self.inside in
+    let x = c.in-Some.document.now in
+    let at : slice_get s.documents.items c.args.doc ≡ Some x = sym c.get.ensures ∙ ap option_copied c.in-Some.is in
+    let u : IsUnexpired x.lock s.moment = search (rules, c.busy.ensures.busy, c.in-Some-busy.is) in
+    let a = any_busy (entries s.journal) s.documents.items c.args.doc x c.self.invariant.book.stands at s.moment c.self.invariant.book.now_is u in
+    rw (← c.self.view_is) (search (rules, a, c.in-Some-busy.ensures.told))
+
+pub overflow_add-token : goal.overflow_add-token
+overflow_add-token g c =
+    let t = c.self.invariant.book.tokens_are in
+    let short = acquirings_short (entries c.self.inside.journal) in
+    let l = c.len-length.ensures.value in
+    let k = c.len-length.ensures.short in
+    omega (arith, t, short, l, k)
+
+pub take-until-requires-clause-next : goal.take-until-requires-clause-next
+take-until-requires-clause-next g c = λ d at.
+    let b = token_below (entries c.self.inside.journal) c.self.inside.documents.items c.args.doc d c.self.invariant.book.stands at in
+    let t = c.self.invariant.book.tokens_are in
+    omega (arith, b, t)
+
+pub take-until-requires-clause-free : goal.take-until-requires-clause-free
+take-until-requires-clause-free g c = λ d here.
+    let s = c.self.inside in
+    let x = c.in-Some.document.now in
+    let at : slice_get s.documents.items c.args.doc ≡ Some x = sym c.get.ensures ∙ ap option_copied c.in-Some.is in
+    let free : IsUnexpired x.lock s.moment → ⊥ = search (rules, c.busy.ensures.busy, c.in_default-busy.is) in
+    subst (λ (y : Document). IsUnexpired y.lock s.moment → ⊥) (same_item x d (sym at ∙ here)) free
+
+pub take-until-requires-clause-within : goal.take-until-requires-clause-within
+take-until-requires-clause-within g c =
+    let s = c.self.inside in
+    let x = c.in-Some.document.now in
+    let at : slice_get s.documents.items c.args.doc ≡ Some x = sym c.get.ensures ∙ ap option_copied c.in-Some.is in
+    slice_get_within s.documents.items c.args.doc x at
+
+pub invariant_of-self-2 : goal.invariant_of-self-2
+invariant_of-self-2 g c =
+    let s = c.self.inside in
+    let items = s.documents.items in
+    let x = c.in-Some.document.now in
+    let at : slice_get s.documents.items c.args.doc ≡ Some x = sym c.get.ensures ∙ ap option_copied c.in-Some.is in
+    let free : IsUnexpired x.lock s.moment → ⊥ = search (rules, c.busy.ensures.busy, c.in_default-busy.is) in
+    let count = c.self.invariant.book.stands.count in
+    let within = slice_get_within items c.args.doc x at in
+    let made : IsMade c.args.doc (entries s.journal) = omega (arith, count, within) in
+    let may = may_acquire c.args.doc s.moment (s.moment + LOCK_LIFE) x (entries s.journal) made (c.self.invariant.book.stands.each c.args.doc x at) c.self.invariant.book.now_is refl free in
+    let row = subst (λ n. IsAcquiring (entries s.journal) c.args.doc (n + 1) (s.moment + LOCK_LIFE)) (sym c.self.invariant.book.tokens_are) may in
+    record {
+      book = acquired_book s.journal c.make_room.new.journal c.push.new.self items c.take-until.new.self.items s.moment s.tokens s.owed s.drivers c.in-Ok-make_room.sum c.args.doc (s.moment + LOCK_LIFE) c.args.by.seat c.entry_of.result
+          c.self.invariant.book c.take-until.ensures.names c.make_room.ensures.entries c.in-Ok-make_room.ensures.room c.push.ensures.entries c.push.ensures.spare (ap (λ (e : Entry). e.seat) c.entry_of.ensures)
+          (ap (λ (e : Entry). e.act) c.entry_of.ensures ∙ ap (λ n. Acquired c.args.doc (s.tokens + 1) n) c.take-until.ensures.until) row c.take-until.ensures.taken;
+      roomed = roomed_quiet_by s.rooms (entries s.journal) (entries c.make_room.new.journal) (entries c.push.new.self) c.args.by.seat c.args.by.line (Acquired c.args.doc (s.tokens + 1) c.take-until.result) c.entry_of.result c.entry_of.ensures c.make_room.ensures.entries c.push.ensures.entries c.self.invariant.book.stands.legal tt refl (λ d. refl) c.self.invariant.roomed;
+      keeps = keeps_by (entries s.journal) (entries c.make_room.new.journal) (entries c.push.new.self) c.args.by.seat c.args.by.line (Acquired c.args.doc (s.tokens + 1) c.take-until.result) c.entry_of.result c.entry_of.ensures c.make_room.ensures.entries c.push.ensures.entries (λ d o. refl) refl tt c.self.invariant.keeps;
+    }
+
+pub returns-in_default-kept_look-clause-refused : goal.returns-in_default-kept_look-clause-refused
+returns-in_default-kept_look-clause-refused g c =
+    let s = c.self.inside in
+    let x = c.in-Some.document.now in
+    let at : slice_get s.documents.items c.args.doc ≡ Some x = sym c.get.ensures ∙ ap option_copied c.in-Some.is in
+    let free : IsUnexpired x.lock s.moment → ⊥ = search (rules, c.busy.ensures.busy, c.in_default-busy.is) in
+    rw (← c.self.view_is) (sym (any_free (entries s.journal) s.documents.items c.args.doc x c.self.invariant.book.stands at s.moment c.self.invariant.book.now_is free))
+
+pub returns-in_default-make_room-clause-refused : goal.returns-in_default-make_room-clause-refused
+returns-in_default-make_room-clause-refused g c =
+    let s = c.self.inside in
+    let x = c.in-Some.document.now in
+    let at : slice_get s.documents.items c.args.doc ≡ Some x = sym c.get.ensures ∙ ap option_copied c.in-Some.is in
+    let free : IsUnexpired x.lock s.moment → ⊥ = search (rules, c.busy.ensures.busy, c.in_default-busy.is) in
+    rw (← c.self.view_is) (sym (any_free (entries s.journal) s.documents.items c.args.doc x c.self.invariant.book.stands at s.moment c.self.invariant.book.now_is free))
+
+pub returns-clause-free : goal.returns-clause-free
+returns-clause-free g c =
+    let s = c.self.inside in
+    let x = c.in-Some.document.now in
+    let at : slice_get s.documents.items c.args.doc ≡ Some x = sym c.get.ensures ∙ ap option_copied c.in-Some.is in
+    let free : IsUnexpired x.lock s.moment → ⊥ = search (rules, c.busy.ensures.busy, c.in_default-busy.is) in
+    rw (← c.self.view_is) (any_free (entries s.journal) s.documents.items c.args.doc x c.self.invariant.book.stands at s.moment c.self.invariant.book.now_is free)
+
+pub returns-clause-ready : goal.returns-clause-ready
+returns-clause-ready g c =
+    let s = c.self.inside in
+    let x = c.in-Some.document.now in
+    let at : slice_get s.documents.items c.args.doc ≡ Some x = sym c.get.ensures ∙ ap option_copied c.in-Some.is in
+    let l = c.len-length.ensures.value in
+    let k = c.len-length.ensures.short in
+    let is = c.in-Ok.ensures in
+    may_keep c.args.doc x c.in-Ok.look (entries s.journal) c.self.invariant.book.stands.legal (omega (arith, l, k)) (c.self.invariant.book.stands.each c.args.doc x at) (ap (λ (y : KeptLook). y.version) is) (ap (λ (y : KeptLook). y.text) is) (ap (λ (y : KeptLook). y.ranges) is)
+
+pub returns-clause-looks : goal.returns-clause-looks
+returns-clause-looks g c =
+    let s = c.self.inside in
+    let j = entries s.journal in
+    let e = c.entry_of.result in
+    let doc = c.args.doc in
+    let token = s.tokens + 1 in
+    let until = s.moment + LOCK_LIFE in
+    let t = c.take-until.ensures.taken in
+    let legal = c.self.invariant.book.stands.legal in
+    let before = c.self.invariant.book.stands.each doc t.was t.at in
+    let x = c.in-Some.document.now in
+    let at : slice_get s.documents.items doc ≡ Some x = sym c.get.ensures ∙ ap option_copied c.in-Some.is in
+    let is : e.act ≡ Acquired doc token until = ap (λ (y : Entry). y.act) c.entry_of.ensures ∙ ap (λ n. Acquired doc token n) c.take-until.ensures.until in
+    let seat_is : e.seat ≡ c.args.by.seat = ap (λ (y : Entry). y.seat) c.entry_of.ensures in
+    let next : token ≡ next_token j = ap (λ n. n + 1) c.self.invariant.book.tokens_are in
+    let locked = subst (λ n. IsLocked (record { last = token; until = until; seat = n; held = true }) t.was t.now) (sym seat_is) t.is in
+    let here = here_acquired doc t.was t.now j e legal before token until is next locked in
+    let more : entries c.push.new.self ≡ j ++ e ∷ [] = c.push.ensures.entries ∙ ap (λ l. l ++ e ∷ []) c.make_room.ensures.entries in
+    let look = c.in-Ok.ensures ∙ ap (λ (y : Document). record { token = token; doc = doc; version = y.window.version; text = y.text; ranges = y.ranges }) (same_item x t.was (sym at ∙ t.at)) in
+    (rw more (taken_up doc token until t.was t.now c.in-Ok.look j e here locked is seat_is look), ap (λ (y : KeptLook). y.doc) c.in-Ok.ensures)
