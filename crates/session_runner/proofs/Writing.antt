@@ -7,6 +7,7 @@ use Rattle.json_lines.specs.Object.{line_of}
 use Rattle.source_sink.specs.Buffered.{Delivered, DeliveredPrefix}
 use Rattle.journal_entries.specs.declared.act.Entry.{Entry}
 use Rattle.journal_rules.specs.Documents.{name, text, version}
+use Rattle.journal_rules.specs.Keeping.{kept}
 use Rattle.journal_rules.specs.Tracking.{cells}
 use Rattle.ranges_tracker.specs.Shown.{shown}
 use Rattle.report_text.specs.declared.document_end.DocEnd.{DocEnd}
@@ -63,12 +64,13 @@ pub documents_more : (j : List Entry) (k : ℕ) → document_lines (k + 1) j ≡
 documents_more j k = ap (λ n. document_lines n j) (let z : k + 1 ≡ suc k = omega arith in z)
 
 -- a document's line is that of the journal
-pub document_line_is : (d : ℕ) (j : List Entry) (n t : List ℕ) (r : List Change × List Comment) (v : ℕ) → n ≡ name d j → text d j ≡ Some t → r ≡ shown (cells d j) → v ≡ version d j
-    → line_of (document_members (record { b = 0; doc = d; kept = None; name = n; ranges = r; text = t; v = v })) ≡ document_line d j
-document_line_is d j n t r v name_is text_is ranges_are version_is =
+pub document_line_is : (d : ℕ) (j : List Entry) (k : Option ℕ) (n t : List ℕ) (r : List Change × List Comment) (v : ℕ) → k ≡ kept d j → n ≡ name d j → text d j ≡ Some t → r ≡ shown (cells d j) → v ≡ version d j
+    → line_of (document_members (record { b = 0; doc = d; kept = k; name = n; ranges = r; text = t; v = v })) ≡ document_line d j
+document_line_is d j k n t r v kept_is name_is text_is ranges_are version_is =
     ap (λ (end : DocEnd). line_of (document_members end)) (
-    ap₂ (λ (n : List ℕ) (t : List ℕ). record { b = 0; doc = d; kept = None; name = n; ranges = r; text = t; v = v }) name_is (sym (ap (λ (o : Option (List ℕ)). unwrap_or o []) text_is))
-    ∙ ap₂ (λ (r : List Change × List Comment) (v : ℕ). record { b = 0; doc = d; kept = None; name = name d j; ranges = r; text = unwrap_or (text d j) []; v = v }) ranges_are version_is
+    ap₂ (λ (n : List ℕ) (t : List ℕ). record { b = 0; doc = d; kept = k; name = n; ranges = r; text = t; v = v }) name_is (sym (ap (λ (o : Option (List ℕ)). unwrap_or o []) text_is))
+    ∙ ap₂ (λ (r : List Change × List Comment) (v : ℕ). record { b = 0; doc = d; kept = k; name = name d j; ranges = r; text = unwrap_or (text d j) []; v = v }) ranges_are version_is
+    ∙ ap (λ o. record { b = 0; doc = d; kept = o; name = name d j; ranges = shown (cells d j); text = unwrap_or (text d j) []; v = version d j }) kept_is
     )
 
 -- one line more, put beside those before it

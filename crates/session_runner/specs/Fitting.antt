@@ -5,7 +5,7 @@ use Rattle.journal_rules.specs.Documents.{Making, is_named}
 use Rattle.journal_rules.specs.Deciding.{longest}
 use Rattle.journal_rules.specs.Legal.{IsRaw, highest_base}
 use Rattle.session_lines.specs.declared.line.Line.{Line}
-use Rattle.session_lines.specs.declared.line.Line.TheVariants.{Doc, Tick, Raw, Join, Rejoin, Leave, Send, Resend, Recv, Ins, Del, Com, Sync, Drain, Hold, Finish}
+use Rattle.session_lines.specs.declared.line.Line.TheVariants.{Doc, Tick, Raw, Join, Rejoin, Leave, Send, Resend, Recv, Ins, Del, Com, Sync, Drain, Flush, Hold, Finish}
 
 -- the commands that are built so far
 abbrev pub is_built : Line → Bool
@@ -23,6 +23,7 @@ is_built (Del session p n) = true
 is_built (Com session p n t) = true
 is_built (Sync session) = true
 is_built (Drain session doc) = true
+is_built (Flush session doc) = true
 is_built (Hold session doc) = true
 is_built (Finish session) = true
 is_built _ = false

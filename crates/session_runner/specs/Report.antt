@@ -7,16 +7,17 @@ use Rattle.report_text.specs.Documents.{document_members}
 use Rattle.report_text.specs.Entries.{entry_members}
 use Rattle.journal_entries.specs.declared.act.Entry.{Entry}
 use Rattle.journal_rules.specs.Documents.{makings, name, text, version}
+use Rattle.journal_rules.specs.Keeping.{kept}
 use Rattle.journal_rules.specs.Tracking.{cells}
 use Rattle.run_rules.specs.Report.{client_lines}
 use Rattle.session_lines.specs.declared.script.Script.{Script}
 use Rattle.session_lines.specs.declared.fault.ScriptFault.{ScriptFault}
 use Rattle.session_lines.specs.Script.{script_of}
 
--- a document of board 0 at its version: its text, which a legal journal always gives, and what its cells show. It is not flushed
+-- a document of board 0 at its version: its text, which a legal journal always gives, and what its cells show. It tells the version that is in the keeper
 abbrev pub document_end : ℕ → List Entry → DocEnd
 document_end doc journal =
-    record { b = 0; doc = doc; kept = None; name = name doc journal; ranges = shown (cells doc journal); text = unwrap_or (text doc journal) []; v = version doc journal }
+    record { b = 0; doc = doc; kept = kept doc journal; name = name doc journal; ranges = shown (cells doc journal); text = unwrap_or (text doc journal) []; v = version doc journal }
 
 abbrev pub document_line : ℕ → List Entry → List ℕ
 document_line doc journal = line_of (document_members (document_end doc journal))

@@ -12,7 +12,7 @@ ghost use Rattle.journal_rules.specs.Locks.{clock, next_token};
 ghost use Rattle.session_lines.specs.Script.{session_of};
 ghost use Rattle.session_lines.specs.Standing.{AreBySessions, is_one_of, moved_by};
 ghost use Rattle.run_rules.specs.Keeping.{keeping, nothing_kept};
-ghost use Rattle.run_rules.specs.Lines.{Does, DrainsNamed, Finishes, Holds, Joins, Leads, Syncs, numbered};
+ghost use Rattle.run_rules.specs.Lines.{Does, DrainsNamed, Finishes, FlushesNamed, Holds, Joins, Leads, Syncs, numbered};
 ghost use Rattle.turn_rules.specs.Turns.{Alone, Turn, entry_by};
 ghost use Rattle.session_runner.specs.Apart.{GoesApart, IsBehind};
 ghost use Rattle.session_runner.specs.Clients.{AreClientsOf, GoesQuietly};
@@ -30,6 +30,7 @@ use book::{
 };
 use client_lines::{ClientLine, join_named};
 use dispatcher::{DrainEnd, drain, prepare};
+use flush_manager::{FlushEnd, flush_doc};
 use journal_entries::Why;
 use keeper::Keeper;
 use ot_units::{Name, Units};
@@ -200,6 +201,13 @@ impl<K: Keeper> Driver<K> {
             Line::Rejoin { session } => self.tell(by, session, &ClientLine::Rejoin),
             Line::Sync { session } => self.sync(alloc, by, session),
             Line::Drain { session, doc } => drain_named(
+                alloc,
+                &mut self.book,
+                number,
+                session,
+                &doc,
+            ),
+            Line::Flush { session, doc } => flush_named(
                 alloc,
                 &mut self.book,
                 number,
@@ -461,5 +469,32 @@ fn drain_named<K: Keeper>(
         DrainEnd::Done { .. } => Ok(()),
         DrainEnd::Busy { busy, .. } => book.decline(by, session, Why::Busy(busy)),
         DrainEnd::Memory { .. } => Err(AllocError),
+    }
+}
+
+// Puts the document of a name into the keeper, or says why it can't.
+fn flush_named<K: Keeper>(
+    alloc: Global,
+    book: &mut Book<K>,
+    number: u32,
+    session: u32,
+    name: &Name,
+) -> Result<(), AllocError>
+    ensures flushes { OnOk result (FlushesNamed (entry_by 0 (Some number)) Alone session (number_of name.now book.old.journal) book.old.journal book.new.journal) }
+    ensures apart { OnOk result (GoesApart (next_token book.old.journal) book.old.journal book.new.journal) }
+    ensures drivers { OnOk result (book.new.drivers ≡ book.old.drivers) }
+{
+    let by = By {
+        seat: 0,
+        line: Some(number),
+    };
+    let Some(doc) = book.find(name) else {
+        return book.decline(by, session, Why::NoDoc);
+    };
+    match flush_doc(alloc, book, by, doc) {
+        FlushEnd::Done => Ok(()),
+        FlushEnd::Failed { .. } => Ok(()),
+        FlushEnd::Refused(why) => book.decline(by, session, why),
+        FlushEnd::Memory => Err(AllocError),
     }
 }

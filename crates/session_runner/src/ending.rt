@@ -149,6 +149,7 @@ fn is_built(line: &Line) -> bool
             | Line::Com { .. }
             | Line::Sync { .. }
             | Line::Drain { .. }
+            | Line::Flush { .. }
             | Line::Hold { .. }
             | Line::Finish { .. }
     )

@@ -175,7 +175,7 @@ fn document_line<K: Keeper>(alloc: Global, book: &Book<K>, doc: u32) -> Result<V
         &DocEnd {
             b: 0,
             doc,
-            kept: None,
+            kept: book.kept(doc),
             name: book.name(doc).copy(alloc)?,
             ranges: book.ranges(doc).copy(alloc)?,
             text: doc_units(alloc, book.text(doc))?,

@@ -1,6 +1,6 @@
 //! Runs over sources and sinks in memory.
 
-use keeper::SureKeeper;
+use keeper::{Keeper, MemoryKeeper, SureKeeper};
 use session_runner::run_alone;
 use source_sink::{ByteSink, ByteSource, INPUT_LIMIT};
 use std::alloc::Global;
@@ -43,10 +43,28 @@ fn run_with(
     read_fails: &[u64],
     write_fails: &[u64],
 ) -> Result<Ran, Fail> {
+    run_over(
+        alloc,
+        SureKeeper::new(alloc),
+        words,
+        input,
+        read_fails,
+        write_fails,
+    )
+}
+
+// The same over a keeper.
+fn run_over<K: Keeper>(
+    alloc: Global,
+    keeper: K,
+    words: &str,
+    input: &[u8],
+    read_fails: &[u64],
+    write_fails: &[u64],
+) -> Result<Ran, Fail> {
     let words = words_of(alloc, words)?;
     let mut source = ByteSource::new(alloc, input, read_fails)?;
     let mut sink = ByteSink::new(alloc, write_fails)?;
-    let keeper = SureKeeper::new(alloc);
     let ended = run_alone(alloc, &words, &mut source, &mut sink, keeper);
     Ok(Ran {
         status: ended.status,
@@ -584,7 +602,7 @@ fn names_faulty_lines_and_words(rt: HostRuntime) -> Result<(), Fail> {
         3,
         &[
             "{'do':'doc','doc':'a','project':'p','text':'ab'}",
-            "{'as':'w','do':'flush','doc':'a'}",
+            "{'as':'w','do':'unload','doc':'a'}",
         ],
         &["fault: line 2 unbuilt"],
     )?;
@@ -600,6 +618,93 @@ fn names_faulty_lines_and_words(rt: HostRuntime) -> Result<(), Fail> {
         ],
         &["fault: words"],
     )?;
+    Ok(())
+}
+
+#[test]
+fn puts_documents_into_the_keeper(rt: HostRuntime) -> Result<(), Fail> {
+    // flushed at its version
+    check(
+        &rt,
+        rt.alloc(),
+        "run",
+        0,
+        &[
+            "{'do':'doc','doc':'a','project':'p','text':'abc'}",
+            "{'do':'raw','as':'w','doc':'a','user':'u','source':1,'v':0,'op':[{'i':'X','p':1}]}",
+            "{'do':'drain','as':'w','doc':'a'}",
+            "{'do':'flush','as':'w','doc':'a'}",
+        ],
+        &[
+            "{'b':0,'base':0,'doc':0,'e':'made','line':1,'n':0,'name':'a','project':'p','seat':0,'text':'abc'}",
+            "{'b':0,'client':null,'doc':0,'dup':[],'e':'sent','line':2,'ms':0,'n':1,'number':0,'op':[{'i':'X','p':1}],'seat':0,'source':1,'track':false,'user':'u','v':0}",
+            "{'b':0,'doc':0,'e':'acquired','line':3,'n':2,'seat':0,'token':1,'until':30000}",
+            "{'b':0,'doc':0,'e':'committed','line':3,'n':3,'op':[{'i':'X','p':1}],'out':'applied','seat':0,'ticket':1,'token':1,'v':0}",
+            "{'b':0,'doc':0,'e':'released','line':3,'n':4,'seat':0,'token':1}",
+            "{'b':0,'doc':0,'e':'acquired','line':4,'n':5,'seat':0,'token':2,'until':30000}",
+            "{'b':0,'doc':0,'e':'flushed','line':4,'n':6,'seat':0,'token':2,'v':1}",
+            "{'b':0,'doc':0,'e':'released','line':4,'n':7,'seat':0,'token':2}",
+            "{'b':0,'driver':0,'e':'closed','line':null,'n':8,'seat':0}",
+            "{'b':0,'e':'ticked','line':null,'ms':30000,'n':9,'seat':0}",
+            "{'b':0,'changes':[],'comments':[],'doc':0,'e':'doc','kept':1,'name':'a','text':'aXbc','v':1}",
+        ],
+    )?;
+    // a document that wasn't made, and one that another session holds
+    check(
+        &rt,
+        rt.alloc(),
+        "run",
+        0,
+        &[
+            "{'do':'doc','doc':'a','project':'p','text':'abc'}",
+            "{'do':'raw','as':'w','doc':'a','user':'u','source':1,'v':0,'op':[{'i':'X','p':1}]}",
+            "{'do':'flush','as':'w','doc':'b'}",
+            "{'do':'hold','as':'h','doc':'a'}",
+            "{'do':'flush','as':'w','doc':'a'}",
+        ],
+        &[
+            "{'b':0,'base':0,'doc':0,'e':'made','line':1,'n':0,'name':'a','project':'p','seat':0,'text':'abc'}",
+            "{'b':0,'client':null,'doc':0,'dup':[],'e':'sent','line':2,'ms':0,'n':1,'number':0,'op':[{'i':'X','p':1}],'seat':0,'source':1,'track':false,'user':'u','v':0}",
+            "{'b':0,'e':'declined','line':3,'n':2,'seat':0,'session':0,'why':'no-doc'}",
+            "{'b':0,'doc':0,'e':'acquired','line':4,'n':3,'seat':0,'token':1,'until':30000}",
+            "{'b':0,'e':'declined','line':5,'n':4,'seat':0,'session':0,'token':1,'until':30000,'why':'busy'}",
+            "{'b':0,'driver':0,'e':'closed','line':null,'n':5,'seat':0}",
+            "{'b':0,'e':'ticked','line':null,'ms':30000,'n':6,'seat':0}",
+            "{'b':0,'doc':0,'e':'acquired','line':null,'n':7,'seat':0,'token':2,'until':60000}",
+            "{'b':0,'doc':0,'e':'committed','line':null,'n':8,'op':[{'i':'X','p':1}],'out':'applied','seat':0,'ticket':1,'token':2,'v':0}",
+            "{'b':0,'doc':0,'e':'released','line':null,'n':9,'seat':0,'token':2}",
+            "{'b':0,'changes':[],'comments':[],'doc':0,'e':'doc','kept':null,'name':'a','text':'aXbc','v':1}",
+        ],
+    )?;
+    // a keeper whose first put fails
+    let alloc = rt.alloc();
+    let input = spelled(
+        alloc,
+        &[
+            "{'do':'doc','doc':'a','project':'p','text':'abc'}",
+            "{'do':'flush','as':'w','doc':'a'}",
+            "{'do':'flush','as':'w','doc':'a'}",
+        ],
+    )?;
+    let want = spelled(
+        alloc,
+        &[
+            "{'b':0,'base':0,'doc':0,'e':'made','line':1,'n':0,'name':'a','project':'p','seat':0,'text':'abc'}",
+            "{'b':0,'doc':0,'e':'acquired','line':2,'n':1,'seat':0,'token':1,'until':30000}",
+            "{'after':1,'b':0,'before':0,'doc':0,'e':'flush-failed','line':2,'n':2,'seat':0,'token':1}",
+            "{'b':0,'doc':0,'e':'released','line':2,'n':3,'seat':0,'token':1}",
+            "{'b':0,'doc':0,'e':'acquired','line':3,'n':4,'seat':0,'token':2,'until':30000}",
+            "{'b':0,'doc':0,'e':'flushed','line':3,'n':5,'seat':0,'token':2,'v':0}",
+            "{'b':0,'doc':0,'e':'released','line':3,'n':6,'seat':0,'token':2}",
+            "{'b':0,'driver':0,'e':'closed','line':null,'n':7,'seat':0}",
+            "{'b':0,'e':'ticked','line':null,'ms':30000,'n':8,'seat':0}",
+            "{'b':0,'changes':[],'comments':[],'doc':0,'e':'doc','kept':0,'name':'a','text':'abc','v':0}",
+        ],
+    )?;
+    let keeper = MemoryKeeper::new(alloc, &[], &[1])?;
+    let run = run_over(alloc, keeper, "run", input.as_str().as_bytes(), &[], &[])?;
+    assert_eq!(rt; run.output.as_slice(), want.as_str().as_bytes());
+    assert_eq!(rt; run.status, 0);
     Ok(())
 }
 

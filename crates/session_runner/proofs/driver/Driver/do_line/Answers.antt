@@ -58,6 +58,14 @@ returns-in-Drain-clause-behind g c =
     let old = c.args.self.now.book.journal in let new = c.drain_named.new.book.journal in
     on_ok c.drain_named.result (λ g. subst (λ (l : Line). IsBehind l old new) (sym c.in-Drain.is) (apart_behind _ (next_token old) old new (λ ms. refl) refl g)) c.drain_named.ensures.apart
 
+pub returns-in-Flush-clause-driver : goal.returns-in-Flush-clause-driver
+returns-in-Flush-clause-driver g c = on_ok c.flush_named.result (λ g. drained c.args.self.now c.flush_named.new.book (Some c.args.number) g.0 g.1 c.requires.driver) (both_ok _ _ c.flush_named.result c.flush_named.ensures.drivers c.flush_named.ensures.apart)
+
+pub returns-in-Flush-clause-behind : goal.returns-in-Flush-clause-behind
+returns-in-Flush-clause-behind g c =
+    let old = c.args.self.now.book.journal in let new = c.flush_named.new.book.journal in
+    on_ok c.flush_named.result (λ g. subst (λ (l : Line). IsBehind l old new) (sym c.in-Flush.is) (apart_behind _ (next_token old) old new (λ ms. refl) refl g)) c.flush_named.ensures.apart
+
 pub returns-in-Hold-clause-behind : goal.returns-in-Hold-clause-behind
 returns-in-Hold-clause-behind g c =
     let old = c.args.self.now.book.journal in let new = c.hold.new.self.book.journal in
