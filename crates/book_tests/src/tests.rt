@@ -1,4 +1,4 @@
-//! A takeover with two holders, and flushes over a keeper that fails, on a book alone.
+//! A takeover with two holders, on a book alone.
 
 ghost use Rattle.std.specs.Prelude.{◌≡◌, ◌≢◌, ◌∷◌, [], IfOk, OnOk};
 ghost use Rattle.ot_op.specs.declared.comp.Comp.TheVariants.{Ins};
@@ -8,9 +8,8 @@ ghost use Rattle.book.specs.Looking.{IsDecided, IsOf};
 use book::{AcquireFault, Book, By, CommitFault, Prepared, RawUpdate};
 use dup_check::decide;
 use expiring_lock::{Busy, Stale};
-use flush_manager::{FlushEnd, flush_doc};
-use journal_entries::{Act, Entry, Outcome, Sources, Why};
-use keeper::{Keeper, MemoryKeeper, SureKeeper};
+use journal_entries::{Act, Outcome, Sources};
+use keeper::SureKeeper;
 use ot_op::{Comp, FormFault, Op};
 use ot_units::{Name, Units};
 use std::alloc::Global;
@@ -52,8 +51,8 @@ fn raw(alloc: Global, doc: u32, op: Result<Op, FormFault>) -> Result<RawUpdate, 
 }
 
 // A book with the document `abc`, and one update that waits for it.
-fn begun<K: Keeper>(alloc: Global, keeper: K) -> Result<Book<K>, Fail> {
-    let Ok(mut book) = Book::new(alloc, keeper, 0) else {
+fn begun(alloc: Global) -> Result<Book<SureKeeper>, Fail> {
+    let Ok(mut book) = Book::new(alloc, SureKeeper::new(alloc), 0) else {
         return Err(Fail::new("no book"));
     };
     if book.docs() != 0 {
@@ -216,81 +215,11 @@ fn taken_over(
 #[test]
 fn an_expired_holder_commits_nothing(rt: HostRuntime) -> Result<(), Fail> {
     let alloc = rt.alloc();
-    let mut book = begun(alloc, SureKeeper::new(alloc))?;
+    let mut book = begun(alloc)?;
     let first = prepared(alloc, &mut book, 1)?;
     let (busy, stale, more) = taken_over(alloc, &mut book, first)?;
     assert!(rt; busy.token == 1 && busy.until == 30_000);
     assert!(rt; more == Some(false) && is_applied(&book));
     assert!(rt; stale == Some(Stale::Other(2)));
-    Ok(())
-}
-
-// The acts of a journal, by their kinds.
-fn kinds(alloc: Global, entries: &[Entry]) -> Result<Vec<&'static str>, Fail> {
-    let mut kinds = Vec::new(alloc);
-    for entry in entries {
-        kinds.push(match entry.act {
-            Act::Made { .. } => "made",
-            Act::Sent { .. } => "sent",
-            Act::Acquired { .. } => "acquired",
-            Act::Flushed { .. } => "flushed",
-            Act::FlushFailed { .. } => "flush-failed",
-            Act::Released { .. } => "released",
-            _ => "another",
-        })?;
-    }
-    Ok(kinds)
-}
-
-// The keeper fails at the first put, and keeps the document at the second; a document that wasn't made
-// is refused, and one that another holds.
-#[test]
-fn what_is_flushed_stands_in_the_keeper(rt: HostRuntime) -> Result<(), Fail> {
-    let alloc = rt.alloc();
-    let mut book = begun(alloc, MemoryKeeper::new(alloc, &[], &[1])?)?;
-    let failed = flush_doc(alloc, &mut book, by(0), 0);
-    assert_eq!(rt;
-        failed,
-        FlushEnd::Failed {
-            before: 0,
-            after: 1
-        }
-    );
-    assert_eq!(rt; flush_doc(alloc, &mut book, by(0), 0), FlushEnd::Done);
-    assert_eq!(rt;
-        flush_doc(alloc, &mut book, by(0), 1),
-        FlushEnd::Refused(Why::NoDoc)
-    );
-    let Ok(_look) = book.acquire(by(2), 0) else {
-        return Err(Fail::new("a lock that isn't free"));
-    };
-    let held = Busy {
-        token: 3,
-        until: 30_000,
-    };
-    assert_eq!(rt;
-        flush_doc(alloc, &mut book, by(0), 0),
-        FlushEnd::Refused(Why::Busy(held))
-    );
-    let (mut keeper, journal) = book.ended();
-    let kinds = kinds(alloc, journal.as_slice())?;
-    let want = [
-        "made",
-        "sent",
-        "acquired",
-        "flush-failed",
-        "released",
-        "acquired",
-        "flushed",
-        "released",
-        "acquired",
-    ];
-    assert_eq!(rt; kinds.as_slice(), want.as_slice());
-    let Some(kept) = keeper.get(alloc, name(alloc, "a")?.as_str())? else {
-        return Err(Fail::new("no document in the keeper"));
-    };
-    assert_eq!(rt; kept.version(), 0);
-    assert_eq!(rt; kept.text(alloc)?.as_slice(), [97, 98, 99].as_slice());
-    assert_eq!(rt; keeper.faults(), 1);
     Ok(())
 }
