@@ -1,21 +1,21 @@
 -- A book after one entry more.
-use Rattle.std.proofs.Common.{◌≡◌, ◌⊎◌, inl, inr, ℕ, ◌+◌, ◌-◌, ◌≤◌, ◌<◌, List, [], ◌∷◌, ◌++◌, length, map, Bool, true, false, not, cond, ◌||◌, refl, sym, ap, ap₂, ◌∙◌, subst, arith, append-nil, length-append}
+use Rattle.std.proofs.Common.{◌≡◌, ℕ, ◌+◌, ◌-◌, ◌≤◌, ◌<◌, List, [], ◌∷◌, ◌++◌, length, map, false, not, cond, refl, sym, ap, ap₂, ◌∙◌, subst, arith, append-nil, length-append}
 use Rattle.std.specs.Prelude.{slice_get, Option, Some, None, ⊤, nat_lt, position, if◌then◌else◌}
 use Rattle.std.specs.Str.{bytes_eq}
 use Rattle.std.specs.List.{list_any, position_or_len}
-use Rattle.std.proofs.lemmas.Bool.{cases_lt, lt-ltb}
 use Rattle.std.proofs.lemmas.List.{length-map, map-append}
 use Rattle.expiring_lock.specs.Locks.{LockState}
 use Rattle.journal_entries.specs.Journals.{Journaled, entries, spare}
 use Rattle.journal_entries.specs.declared.update.Update.{Update}
 use Rattle.journal_entries.specs.declared.act.Act.{Act}
-use Rattle.journal_entries.specs.declared.act.Act.TheVariants.{Made, Ticked, Joined as JoinedAct, Edited, Sent, Malformed, Got, Left as LeftAct, FlushFailed, Declined, Closed}
+use Rattle.journal_entries.specs.declared.act.Act.TheVariants.{Made, Ticked, Joined as JoinedAct, Edited, Sent, Malformed, Got, Left as LeftAct, FlushFailed, Handed, Declined, Closed}
 use Rattle.journal_entries.specs.declared.act.Entry.{Entry}
 use Rattle.journal_rules.specs.Documents.{Making, is_named, making_of, makings, number_in, number_of, is_in, waiting}
 use Rattle.journal_rules.specs.Locks.{acquiring_of, acquirings, clock, ticked}
 use Rattle.journal_rules.specs.Legal.{IsAllowed, clock_end, closed, closed_by}
 use Rattle.journal_rules.proofs.Pushing.{acquirings-push, acquirings-none, makings-push, makings-none, clock-push, clock-none, closed-push, closed-none}
 use Rattle.journal_laws.proofs.Unmade.{unmade_waits}
+use Rattle.project_histories.proofs.Lists.{none_passes}
 use Rattle.book.specs.declared.document.Document.{Document}
 use Rattle.book.specs.Standing.{AreDocuments, IsKeptAs, IsNew, IsQueued, Turns, one_for, owed_for}
 use Rattle.book.specs.Shown.{IsBook, names_in, driver_count, unclosed}
@@ -65,6 +65,7 @@ abbrev pub IsQuiet : Act → Type 0
 IsQuiet (Ticked ms) = ⊤
 IsQuiet (Malformed doc fault) = ⊤
 IsQuiet (FlushFailed doc token from to) = ⊤
+IsQuiet (Handed project count) = ⊤
 IsQuiet (Declined session why) = ⊤
 IsQuiet (Closed driver) = ⊤
 IsQuiet (JoinedAct client doc user track since source v) = ⊤
@@ -82,6 +83,7 @@ quiet_facts : (seat : ℕ) (a : Act) → IsQuiet a → QuietFacts seat a
 quiet_facts seat (Ticked ms) q = record { passes = λ d. tt; makes = refl; takes = refl }
 quiet_facts seat (Malformed doc fault) q = record { passes = λ d. tt; makes = refl; takes = refl }
 quiet_facts seat (FlushFailed doc token from to) q = record { passes = λ d. tt; makes = refl; takes = refl }
+quiet_facts seat (Handed project count) q = record { passes = λ d. tt; makes = refl; takes = refl }
 quiet_facts seat (Declined session why) q = record { passes = λ d. tt; makes = refl; takes = refl }
 quiet_facts seat (Closed driver) q = record { passes = λ d. tt; makes = refl; takes = refl }
 quiet_facts seat (JoinedAct client doc user track since source v) q = record { passes = λ d. tt; makes = refl; takes = refl }
@@ -196,23 +198,8 @@ pub waits_nowhere : (d : ℕ) (documents : List Document) (j : List Entry) → A
 waits_nowhere d documents j were high = let c = were.count in ap length (unmade_waits d j were.legal (omega (arith, high, c)))
 
 -- ---- names
-not_any : {A : Type 0} (p : A → Bool) (xs : List A) → length xs ≤ position_or_len p xs → list_any p xs ≡ false
-not_any p [] le = refl
-not_any {A} p (x ∷ xs) le = by (λ rest. not_any p xs rest) (p x) refl le
-  where
-    by : (length xs ≤ position_or_len p xs → list_any p xs ≡ false) → (b : Bool) → p x ≡ b → length (x ∷ xs) ≤ cond (not b) (1 + position_or_len p xs) 0 → (b || list_any p xs) ≡ false
-    by all true is le = absurd (omega (arith, le))
-    by all false is le = all (omega (arith, le))
-
 pub unnamed : (name : List ℕ) (ms : List Making) → number_in name ms ≡ None → list_any (is_named name) ms ≡ false
-unnamed name ms none = not_any (is_named name) ms (high (position_or_len (is_named name) ms) (length ms) none)
-  where
-    high : (n k : ℕ) → (if nat_lt n k then Some n else None) ≡ None → k ≤ n
-    high n k none = go (cases_lt n k)
-      where
-        go : (n < k) ⊎ (k ≤ n) → k ≤ n
-        go (inl lt) = let found : Some n ≡ None = ap (λ b. if b then Some n else None) (sym (lt-ltb n k lt)) ∙ none in absurd (cc)
-        go (inr le) = le
+unnamed name ms none = none_passes (is_named name) ms none
 
 same_place : (name : List ℕ) (ms : List Making) → position_or_len (bytes_eq name) (map name_by ms) ≡ position_or_len (is_named name) ms
 same_place name [] = refl

@@ -1,23 +1,32 @@
 -- A decision by a look is committed.
-use Rattle.std.proofs.Common.{◌≡◌, inl, ℕ, ◌+◌, ◌-◌, ◌<◌, ◌^◌, List, [], ◌∷◌, ◌++◌, length, ◌∙◌, arith}
-use Rattle.std.specs.Prelude.{slice_get, Some, None}
+use Rattle.std.proofs.Common.{refl, sym, ap, subst, ◌≡◌, inl, ℕ, ◌+◌, ◌-◌, ◌<◌, ◌^◌, List, [], ◌∷◌, ◌++◌, length, ◌∙◌, arith}
+use Rattle.std.specs.Prelude.{slice_get, Option, Some, None}
 use Rattle.dup_check.specs.declared.snapshot.Snapshot.{Snapshot}
 use Rattle.dup_check.specs.declared.snapshot.Decision.{Decision}
+use Rattle.dup_check.specs.declared.snapshot.Decision.TheVariants.{Apply, Dup, Refuse}
 use Rattle.dup_check.specs.Snapshot.{outcome_of}
 use Rattle.journal_entries.specs.Journals.{Journaled, entries, spare}
 use Rattle.journal_entries.specs.declared.act.Act.TheVariants.{Committed}
 use Rattle.journal_entries.specs.declared.act.Entry.{Entry}
+use Rattle.journal_entries.specs.declared.update.Outcome.{Outcome}
+use Rattle.journal_entries.specs.declared.update.Outcome.TheVariants.{Dup as DupOutcome, Refused}
+use Rattle.history_queue.specs.declared.item.Item.{Item as HistoryItem}
+use Rattle.journal_rules.specs.Documents.{IsMade, making_of}
+use Rattle.journal_rules.specs.History.{handed_by, history_by}
 use Rattle.journal_rules.specs.Deciding.{decided}
-use Rattle.journal_rules.specs.Legal.{IsAllowed}
+use Rattle.journal_rules.specs.Legal.{IsAllowed, IsLegal}
 use Rattle.journal_laws.proofs.Unmade.{version_low}
 use Rattle.turn_rules.specs.Locking.{staleness}
 use Rattle.book.specs.declared.document.Document.{Document}
-use Rattle.book.specs.Looking.{IsDecided, IsOf, IsSettled}
+use Rattle.project_histories.specs.Histories.{AreHistories, Histories}
+use Rattle.project_histories.proofs.Histories.{dup_none, histories_applied, histories_quiet, refused_none}
+use Rattle.book.specs.Looking.{IsDecided, IsOf, IsSettled, PutsItem, item_by}
 use Rattle.book.specs.Standing.{AreDocuments, Turns}
 use Rattle.book.specs.Shown.{IsBook}
 use Rattle.journal_rules.proofs.Fencing.{acquired_made}
-use Rattle.book.proofs.Fenced.{first, holds, named, still, still_decided, under, unused}
-use Rattle.book.proofs.Locking.{at_within, settled_book}
+use Rattle.book.proofs.Fenced.{first, holds, named, read, still, still_decided, under, unused}
+use Rattle.project_histories.proofs.Lists.{at_within}
+use Rattle.book.proofs.Locking.{settled_book}
 use Rattle.book.proofs.Settling.{becomes}
 
 -- what becomes of the update by the journal as it is
@@ -59,3 +68,21 @@ version_fits j documents x d were at short =
     let v = (were.each d x at).window_is.version_is in
     let low = version_low d j were.legal in
     omega (arith, v, low, short)
+
+-- ---- the history of the document's project
+pub committed_histories : (h h' : Histories) (j : List Entry) (e : Entry) (look : Snapshot) (decision : Decision) (item : Option HistoryItem) → IsLegal j → IsOf look j → staleness look.doc look.token j ≡ None
+    → e.act ≡ Committed look.doc look.token look.ticket (outcome_of look.version decision) → item ≡ item_by look decision → PutsItem look.doc item h h' → AreHistories h j → AreHistories h' (j ++ e ∷ [])
+committed_histories h h' j e look decision item legal of stands is item_is puts were = by decision is (subst (λ o. PutsItem look.doc o h h') item_is puts)
+  where
+    made : IsMade look.doc j
+    made = let u = under look.doc look.token j stands in acquired_made look.doc j legal u.acquiring u.held.last
+
+    as_before : (o : Outcome) → e.act ≡ Committed look.doc look.token look.ticket o → ((p : List ℕ) → history_by p j (Committed look.doc look.token look.ticket o) ≡ []) → h' ≡ h → AreHistories h' (j ++ e ∷ [])
+    as_before o at none same =
+        subst (λ (k : Histories). AreHistories k (j ++ e ∷ [])) (sym same)
+        (histories_quiet h j e legal (ap making_of at) (λ p. ap (history_by p j) at ∙ none p) (λ p. ap (handed_by p) at) were)
+
+    by : (d : Decision) → e.act ≡ Committed look.doc look.token look.ticket (outcome_of look.version d) → PutsItem look.doc (item_by look d) h h' → AreHistories h' (j ++ e ∷ [])
+    by (Apply op text ranges) at put = histories_applied h h' j e look.doc look.token look.ticket look.version op look.update look.text _ legal at (named look j legal of stands) (read look j legal of stands) made refl put were
+    by (Dup v) at same = as_before (DupOutcome v) at (λ p. dup_none p j look.doc look.token look.ticket v) same
+    by (Refuse cause) at same = as_before (Refused cause) at (λ p. refused_none p j look.doc look.token look.ticket cause) same

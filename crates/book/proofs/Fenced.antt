@@ -12,7 +12,7 @@ use Rattle.dup_check.specs.declared.snapshot.Decision.{Decision}
 use Rattle.dup_check.specs.Window.{Recent, recent, since_in}
 use Rattle.dup_check.specs.Snapshot.{outcome_of}
 use Rattle.journal_entries.specs.declared.act.Entry.{Entry}
-use Rattle.journal_rules.specs.Documents.{Item, Making, base_in, first_in, is_in, replayed, text, update_at, waiting}
+use Rattle.journal_rules.specs.Documents.{Item, Making, base_in, first_in, is_in, replayed, text, text_at, update_at, version, waiting}
 use Rattle.journal_rules.specs.Deciding.{decided}
 use Rattle.journal_rules.specs.Fence.{IsSameOf}
 use Rattle.journal_rules.specs.Legal.{IsLegal}
@@ -22,6 +22,7 @@ use Rattle.journal_rules.proofs.Fencing.{fenced}
 use Rattle.journal_rules.proofs.Legality.{legal_front}
 use Rattle.journal_rules.proofs.Lists.{some_same}
 use Rattle.journal_rules.proofs.Waits.{all_none, all_one, update_stays}
+use Rattle.journal_laws.proofs.Updates.{text_at_version}
 use Rattle.turn_rules.specs.Locking.{staleness}
 use Rattle.book.specs.declared.document.Document.{Document}
 use Rattle.book.specs.Looking.{IsDecided, IsLook, IsLookAt, IsNoCommit, IsOf, IsSince, window_of}
@@ -150,6 +151,13 @@ module _ (look : Snapshot) (j : List Entry) (legal : IsLegal j) (of : IsOf look 
 
   text_same : text look.doc j ≡ text look.doc early
   text_same = ap₂ (λ (m : Option Making) (l : List Item). replayed (first_in m) (map (λ (i : Item). i.op) l)) fence.making_is fence.applied_is
+
+  version_same : version look.doc j ≡ version look.doc early
+  version_same = ap₂ (λ (m : Option Making) (l : List Item). base_in m + length l) fence.making_is fence.applied_is
+
+  -- the text that was looked at is that of its version
+  pub read : text_at look.doc look.version j ≡ Some look.text
+  read = ap (λ n. text_at look.doc n j) (of.looks.version_is ∙ sym version_same) ∙ text_at_version look.doc j ∙ text_same ∙ of.looks.text_is
 
   cells_same : cells look.doc j ≡ cells look.doc early
   cells_same = ap₂ (λ (m : Option Making) (l : List Item). tracked (plain_row (first_in m)) l) fence.making_is fence.applied_is

@@ -6,7 +6,8 @@ use Rattle.keyed_store.specs.Stores.{names_of, value_at, values_of}
 use Rattle.keyed_store.proofs.Writes.{names_of-set, values_of-set}
 use Rattle.book.specs.declared.document.Document.{Document}
 use Rattle.book.specs.Standing.{Held, IsKeptAs, IsQueued, Turns}
-use Rattle.book.proofs.Lists.{set_here, set_twice}
+use Rattle.project_histories.proofs.Lists.{set_here}
+use Rattle.book.proofs.Lists.{set_twice}
 
 module _ (store : List (List ℕ × Document)) (held : Held) (doc : ℕ) (now : Document) (is : record { names = names_of store; items = values_of store } ≡ held) where
   pub names_kept : names_of (set_value_at store doc now) ≡ held.names

@@ -7,7 +7,7 @@ use Rattle.std.proofs.lemmas.Bool.Decides.{eqb_tells}
 use Rattle.journal_entries.specs.declared.update.Update.{Update}
 use Rattle.journal_entries.specs.declared.update.Outcome.{Outcome}
 use Rattle.journal_entries.specs.declared.act.Act.{Act}
-use Rattle.journal_entries.specs.declared.act.Act.TheVariants.{Made, Ticked, Joined as JoinedAct, Edited, Sent, Malformed, Got, Left as LeftAct, Acquired, Committed, Released, Flushed, FlushFailed, Declined, Closed}
+use Rattle.journal_entries.specs.declared.act.Act.TheVariants.{Made, Ticked, Joined as JoinedAct, Edited, Sent, Malformed, Got, Left as LeftAct, Acquired, Committed, Released, Flushed, FlushFailed, Handed, Declined, Closed}
 use Rattle.journal_entries.specs.declared.act.Entry.{Entry}
 use Rattle.journal_rules.specs.Documents.{IsMade, Making, making_of, makings, item_of, items_by, applied_list, sends, ticket_of, waiting, update_at}
 use Rattle.journal_rules.specs.Keeping.{cached_by, cached, kept_by, kept}
@@ -21,7 +21,7 @@ use Rattle.journal_rules.proofs.Waits.{one_if, committed_below, waiting-more, wa
 use Rattle.book.specs.declared.document.Document.{Document}
 use Rattle.book.specs.Deciding.{Becomes}
 use Rattle.book.specs.Standing.{AreDocuments, IsDocument, IsNew, IsQueued, IsKeptAs, IsLocked, IsFreed, IsKeptAt, Turns, lock_in, lock_of}
-use Rattle.book.proofs.Lists.{set_elsewhere, set_here}
+use Rattle.project_histories.proofs.Lists.{set_elsewhere, set_here}
 use Rattle.book.proofs.Standing.{same_self, moved, made_new, applied_document}
 use Rattle.book.proofs.Tokens.{lock_still, lock_push, lock_acquired, lock_released, lock_elsewhere}
 
@@ -36,6 +36,7 @@ Passes d (Committed doc token ticket outcome) = doc ≢ d
 Passes d (Released doc token) = doc ≢ d
 Passes d (Flushed doc token v) = doc ≢ d
 Passes d (FlushFailed doc token from to) = ⊤
+Passes d (Handed project count) = ⊤
 Passes d (Declined session why) = ⊤
 Passes d (JoinedAct client doc user track since source v) = ⊤
 Passes d (Edited client comp) = ⊤
@@ -99,6 +100,7 @@ facts d j seat (Flushed doc token v) legal may apart made = record {
   keeps = ap (λ b. if b then Some v else kept d j) (ne_eqb doc d apart);
 }
 facts d j seat (FlushFailed doc token from to) legal may apart made = record { makes = none_made d j; items = refl; locks = lock_still d j seat (FlushFailed doc token from to) refl refl; caches = refl; keeps = refl }
+facts d j seat (Handed project count) legal may apart made = record { makes = none_made d j; items = refl; locks = lock_still d j seat (Handed project count) refl refl; caches = refl; keeps = refl }
 facts d j seat (Declined session why) legal may apart made = record { makes = none_made d j; items = refl; locks = lock_still d j seat (Declined session why) refl refl; caches = refl; keeps = refl }
 facts d j seat (Closed driver) legal may apart made = record { makes = none_made d j; items = refl; locks = lock_still d j seat (Closed driver) refl refl; caches = refl; keeps = refl }
 facts d j seat (JoinedAct client doc user track since source v) legal may apart made = record { makes = none_made d j; items = refl; locks = lock_still d j seat (JoinedAct client doc user track since source v) refl refl; caches = refl; keeps = refl }
@@ -121,6 +123,7 @@ waits_on d j e (Acquired doc token until) is legal may apart = waits_none d j e 
 waits_on d j e (Released doc token) is legal may apart = waits_none d j e legal (ap ticket_of is) (ap (sends d) is)
 waits_on d j e (Flushed doc token v) is legal may apart = waits_none d j e legal (ap ticket_of is) (ap (sends d) is)
 waits_on d j e (FlushFailed doc token from to) is legal may apart = waits_none d j e legal (ap ticket_of is) (ap (sends d) is)
+waits_on d j e (Handed project count) is legal may apart = waits_none d j e legal (ap ticket_of is) (ap (sends d) is)
 waits_on d j e (Declined session why) is legal may apart = waits_none d j e legal (ap ticket_of is) (ap (sends d) is)
 waits_on d j e (Closed driver) is legal may apart = waits_none d j e legal (ap ticket_of is) (ap (sends d) is)
 waits_on d j e (JoinedAct client doc user track since source v) is legal may apart = waits_none d j e legal (ap ticket_of is) (ap (sends d) is)

@@ -20,3 +20,6 @@ pub mod Locking
 pub mod Fenced
 pub mod Committing
 pub mod Putting
+pub mod Failing
+pub mod Going
+pub mod Handing

@@ -1,5 +1,5 @@
 -- A book under a document's lock.
-use Rattle.std.proofs.Common.{◌≡◌, ◌≢◌, ◌⊎◌, inl, inr, ℕ, zero, suc, ◌+◌, ◌-◌, ◌≤◌, ◌<◌, List, [], ◌∷◌, ◌++◌, length, Bool, true, false, not, ◌&&◌, refl, sym, ap, ap₂, ◌∙◌, subst, arith, append-nil, length-append, eqb, eq-eqb}
+use Rattle.std.proofs.Common.{◌≡◌, ◌≢◌, ◌⊎◌, inl, inr, ℕ, ◌+◌, ◌-◌, ◌≤◌, ◌<◌, List, [], ◌∷◌, ◌++◌, length, Bool, true, false, not, ◌&&◌, refl, sym, ap, ap₂, ◌∙◌, subst, arith, append-nil, length-append, eqb, eq-eqb}
 use Rattle.std.specs.Prelude.{slice_get, Option, Some, None, nat_le, option_map, if◌then◌else◌}
 use Rattle.std.proofs.lemmas.Bool.{cases_lt, le-leb}
 use Rattle.std.proofs.lemmas.Bool.Decides.{eqb_tells, nat_tests}
@@ -40,7 +40,7 @@ use Rattle.std.proofs.lemmas.Option.{slice_get_within}
 use Rattle.std.proofs.lemmas.Bool.{lt-ltb}
 use Rattle.book.specs.declared.faults.AcquireFault.TheVariants.{NoDoc, Empty, Busy as IsBusy}
 use Rattle.book.specs.Calls.{stale_in, MayRefuse, acquire_refused, refused_of, refused_where}
-use Rattle.book.proofs.Lists.{same_item}
+use Rattle.project_histories.proofs.Lists.{at_within, same_item}
 use Rattle.book.proofs.Owed.{owed_set, owed_least}
 use Rattle.book.proofs.Keeping.{Passes, kept_set, here_acquired, here_released, here_committed, unmade_lock}
 use Rattle.book.proofs.Booking.{no_name, push_book}
@@ -163,11 +163,6 @@ released_book {names} {names'} before after documents documents' now tokens owed
     (omega (arith, room, less))
 
 -- ---- what a check of a token tells
-pub at_within : {A : Type 0} (xs : List A) (i : ℕ) → i < length xs → (x : A) × (slice_get xs i ≡ Some x)
-at_within [] i lt = absurd (omega (arith, lt))
-at_within (x ∷ xs) zero lt = (x, refl)
-at_within (x ∷ xs) (suc i) lt = at_within xs i (omega (arith, lt))
-
 module _ {names : List (List ℕ)} (before : Journaled) (documents : List Document) (now tokens owed drivers doc token : ℕ) (was : IsBook before names documents now tokens owed drivers) where
   pub told_by : (r : Option Stale) → doc < length documents → ((d : Document) → slice_get documents doc ≡ Some d → stale_in d.lock token ≡ r) → staleness doc token (entries before) ≡ r
   told_by r within check = let x = at_within documents doc within in sym (stale_is doc token x.0 (entries before) (was.stands.each doc x.0 x.1)) ∙ check x.0 x.1

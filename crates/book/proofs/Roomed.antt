@@ -24,7 +24,7 @@ use Rattle.std.specs.Option.{option_and_then}
 use Rattle.mail_places.proofs.Committing.{placed-committed}
 use Rattle.book.specs.declared.document.Document.{Document}
 use Rattle.book.specs.Standing.{AreDocuments, IsKeptAs, Turns}
-use Rattle.book.proofs.Lists.{same_item, set_get}
+use Rattle.project_histories.proofs.Lists.{same_item, set_get}
 use Rattle.book.specs.Roomed.{AreRoomed, AreSourced, IsMember, IsThere, posted_by, posted_own}
 use Rattle.book.proofs.Keeping.{waits_none}
 

@@ -1,5 +1,5 @@
 -- What the keeper of a book holds, behind one entry more.
-use Rattle.std.proofs.Common.{◌≡◌, ◌≢◌, ◌⊎◌, inl, inr, ℕ, zero, suc, ◌+◌, ◌-◌, ◌≤◌, ◌<◌, List, [], ◌∷◌, ◌++◌, length, map, take, Bool, true, false, ◌||◌, refl, sym, ap, ap₂, ◌∙◌, subst, arith, eqb, append-nil, length-append, All}
+use Rattle.std.proofs.Common.{◌≡◌, ◌≢◌, ◌⊎◌, inl, inr, ℕ, zero, suc, ◌+◌, ◌-◌, ◌≤◌, List, [], ◌∷◌, ◌++◌, length, map, take, Bool, true, false, sym, ap, ap₂, ◌∙◌, subst, arith, eqb, append-nil, length-append, All}
 use Rattle.std.specs.Prelude.{slice_get, Option, Some, None, IsTrue, unwrap_or, if◌then◌else◌}
 use Rattle.std.specs.List.{list_any}
 use Rattle.std.proofs.lemmas.Bool.{or_parts}
@@ -7,7 +7,6 @@ use Rattle.std.proofs.lemmas.Bool.Decides.{eqb_tells}
 use Rattle.std.proofs.lemmas.List.{map-append, take-append-le, length-map}
 use Rattle.std.proofs.lemmas.List.Elements.{All-append}
 use Rattle.std.proofs.lemmas.Slice.Eq.{bytes_eq-Decides}
-use Rattle.ot_op.specs.declared.comp.Comp.{Comp}
 use Rattle.ot_parts.specs.Lines.{lines_of}
 use Rattle.ranges_tracker.specs.Cells.{Row, plain_row}
 use Rattle.ranges_tracker.specs.Kept.{Kept}
@@ -16,15 +15,16 @@ use Rattle.keeper.specs.Documents.{Sets, document_of}
 use Rattle.journal_entries.specs.declared.act.Act.{Act}
 use Rattle.journal_entries.specs.declared.act.Act.TheVariants.{Made, Flushed, FlushFailed}
 use Rattle.journal_entries.specs.declared.act.Entry.{Entry}
-use Rattle.journal_rules.specs.Documents.{IsMade, Item, Making, applied_list, base, base_in, first_in, is_named, items_by, making, making_of, makings, name, name_in, operations, replayed, text_at, version}
+use Rattle.journal_rules.specs.Documents.{IsMade, Item, Making, applied_list, base, base_in, first_in, is_named, items_by, making, making_of, makings, name, name_in, replayed, text_at, version}
 use Rattle.journal_rules.specs.Keeping.{fault_of, faults, kept, kept_by}
 use Rattle.journal_rules.specs.Legal.{IsAllowed, IsLegal}
 use Rattle.journal_rules.specs.Tracking.{cells_at, tracked}
 use Rattle.journal_rules.proofs.Fencing.{made_stays, making_stays}
-use Rattle.journal_rules.proofs.Legality.{Keeps, by_last, last_or, seam}
+use Rattle.journal_rules.proofs.Legality.{Keeps, by_last, last_or}
 use Rattle.journal_rules.proofs.Lists.{some_same}
 use Rattle.journal_rules.proofs.Pushing.{applied_list-push, faults-none, faults-push, kept-none, kept-push, makings-none, makings-push}
 use Rattle.journal_rules.proofs.Waits.{all_map, all_none, all_one}
+use Rattle.project_histories.proofs.Lists.{at_within}
 use Rattle.book.specs.Stored.{AreStored, BeganBy, IsKeeping, IsStored, kept_document}
 
 -- ---- two documents have two names
@@ -61,15 +61,10 @@ names_apart = by_last (λ j. AreApart (makings j)) none more
     more : Keeps (λ j. AreApart (makings j))
     more h e legal may were = subst AreApart (sym (makings-push h e)) (one h e.seat e.act may were)
 
-made_at : (ms : List Making) (i : ℕ) → i < length ms → (m : Making) × (slice_get ms i ≡ Some m)
-made_at [] i lt = absurd (omega (arith, lt))
-made_at (m ∷ ms) zero lt = (m, refl)
-made_at (m ∷ ms) (suc i) lt = made_at ms i (omega (arith, lt))
-
 pub names_differ : (j : List Entry) (a b : ℕ) → IsLegal j → IsMade a j → IsMade b j → a ≢ b → name a j ≢ name b j
 names_differ j a b legal made_a made_b apart same =
-    let x = made_at (makings j) a made_a in
-    let y = made_at (makings j) b made_b in
+    let x = at_within (makings j) a made_a in
+    let y = at_within (makings j) b made_b in
     apart (names_apart j legal a b x.0 y.0 x.1 y.1 (sym (ap name_in x.1) ∙ same ∙ ap name_in y.1))
 
 -- ---- what stands at a version stays

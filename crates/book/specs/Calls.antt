@@ -17,7 +17,7 @@ use Rattle.journal_rules.specs.Deciding.{greatest_age}
 use Rattle.journal_rules.specs.Documents.{IsMade, is_in, makings, version, waiting}
 use Rattle.journal_rules.specs.Keeping.{FailedUnder, cached, loading}
 use Rattle.journal_rules.specs.Locks.{Holds, clock, used}
-use Rattle.journal_rules.specs.Legal.{clock_end}
+use Rattle.journal_rules.specs.Legal.{clock_end, is_project}
 use Rattle.journal_rules.specs.declared.state.ClientState.{ClientState}
 use Rattle.journal_rules.specs.declared.state.ClientState.TheVariants.{Left}
 use Rattle.turn_rules.specs.Clients.{is_present}
@@ -34,6 +34,8 @@ use Rattle.book.specs.declared.faults.LeaveFault.{LeaveFault}
 use Rattle.book.specs.declared.faults.LeaveFault.TheVariants as leave
 use Rattle.book.specs.declared.faults.AcquireFault.{AcquireFault}
 use Rattle.book.specs.declared.faults.AcquireFault.TheVariants as acquire
+use Rattle.book.specs.declared.faults.HandFault.{HandFault}
+use Rattle.book.specs.declared.faults.HandFault.TheVariants as hand
 use Rattle.book.specs.declared.faults.CommitFault.{CommitFault}
 use Rattle.book.specs.declared.faults.CommitFault.TheVariants as commit
 use Rattle.book.specs.declared.faults.Prepared.{Prepared}
@@ -136,3 +138,8 @@ pub record MayRefuse (journal : List Entry) (seat doc token ticket : ℕ) (cause
 abbrev pub MayNotCommit : List Entry → Prepared → CommitFault → Type 0
 MayNotCommit journal prepared (commit.Stale s) = staleness prepared.look.doc prepared.look.token journal ≡ Some s
 MayNotCommit journal prepared (commit.Memory back) = (staleness prepared.look.doc prepared.look.token journal ≡ None) × (back ≡ prepared)
+
+-- ---- hand_history
+abbrev pub MayNotHand : List Entry → List ℕ → HandFault → Type 0
+MayNotHand journal project hand.NoProject = is_project project journal ≡ false
+MayNotHand journal project hand.Memory = is_project project journal ≡ true

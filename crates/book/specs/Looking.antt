@@ -1,5 +1,5 @@
 -- What a decision on an update looks at: a document as it stands, and as the journal has it.
-use Rattle.std.specs.Prelude.{◌≡◌, ℕ, ◌≤◌, ◌++◌, List, [], ◌∷◌, length, Some, All, false}
+use Rattle.std.specs.Prelude.{◌≡◌, ℕ, ◌≤◌, ◌++◌, List, [], ◌∷◌, length, Option, Some, None, All, false}
 use Rattle.ot_op.specs.declared.comp.Comp.{Comp}
 use Rattle.ranges_tracker.specs.Shown.{shown}
 use Rattle.ranges_tracker.specs.declared.change.Change.{Change}
@@ -9,6 +9,7 @@ use Rattle.dup_check.specs.declared.snapshot.Decision.{Decision}
 use Rattle.dup_check.specs.declared.snapshot.Decision.TheVariants.{Apply, Dup, Refuse}
 use Rattle.dup_check.specs.Window.{Recent, pushed, recent, since_in}
 use Rattle.dup_check.specs.Snapshot.{Agrees, Applies, InReach, IsReady, numbered, outcome_of}
+use Rattle.history_queue.specs.declared.item.Item.{Item as HistoryItem}
 use Rattle.journal_entries.specs.declared.update.Update.{Update}
 use Rattle.journal_entries.specs.declared.act.Entry.{Entry}
 use Rattle.journal_rules.specs.Documents.{base, text, update_at, version, waiting, is_in}
@@ -19,6 +20,7 @@ use Rattle.book.specs.declared.document.Document.{Document}
 use Rattle.book.specs.Deciding.{IsSame}
 use Rattle.book.specs.Passing.{past_or_none}
 use Rattle.book.specs.Standing.{pasts}
+use Rattle.project_histories.specs.Histories.{ChangesOf, HasItem, Histories}
 
 -- the document as it stood, and the update
 pub record IsLook (old : Document) (u : Update) (look : Snapshot) : Type 0 where
@@ -54,6 +56,17 @@ abbrev pub op_of : Decision → List Comp
 op_of (Apply op text ranges) = op
 op_of (Dup v) = []
 op_of (Refuse cause) = []
+
+-- the item of the history that it adds
+abbrev pub item_by : Snapshot → Decision → Option HistoryItem
+item_by look (Apply op text ranges) = Some (record { doc = look.doc; v = look.version; op = op; user = look.update.user; ms = look.update.ms; length_before = length look.text })
+item_by look (Dup v) = None
+item_by look (Refuse cause) = None
+
+-- and where there is one, it stands behind the others of the document's project
+abbrev pub PutsItem : ℕ → Option HistoryItem → Histories → Histories → Type 0
+PutsItem doc (Some item) old new = ChangesOf doc (HasItem item) old new
+PutsItem doc None old new = new ≡ old
 
 -- the window of a document, as the journal has it
 abbrev pub window_of : ℕ → List Entry → Recent

@@ -13,6 +13,7 @@ use Rattle.ranges_tracker.specs.Kept.{Kept}
 use Rattle.book.specs.Roomed.{AreRoomed}
 use Rattle.book.specs.Standing.{AreDocuments, owed_for}
 use Rattle.book.specs.Stored.{IsKeeping}
+use Rattle.project_histories.specs.Histories.{AreHistories, Histories}
 
 -- of the keeper, its documents, where its type tells them, its count of faults, and that count as the book was made
 pub record Shown : Type 0 where
@@ -45,10 +46,11 @@ pub record IsBook (journal : Journaled) (names : List (List ℕ)) (documents : L
   pub counted : owed_for documents + unclosed (driver_count drivers) (closed (entries journal)) ≤ owed
   pub room : owed ≤ spare journal
 
--- and so do its rooms, and its keeper
-pub record IsBookWithKeeper (journal : Journaled) (names : List (List ℕ)) (documents : List Document) (rooms : Roomed) (now tokens owed drivers : ℕ) (tells : Bool) (stored : List (List ℕ × Kept)) (count start : ℕ) : Type 0 where
+-- and so do its rooms, the histories of its projects, and its keeper
+pub record IsBookWithKeeper (journal : Journaled) (names : List (List ℕ)) (documents : List Document) (rooms : Roomed) (projects : Histories) (now tokens owed drivers : ℕ) (tells : Bool) (stored : List (List ℕ × Kept)) (count start : ℕ) : Type 0 where
   pub book : IsBook journal names documents now tokens owed drivers
   pub roomed : AreRoomed rooms (entries journal)
+  pub histories : AreHistories projects (entries journal)
   pub keeps : IsKeeping tells stored count start (entries journal)
 
 -- a book with these entries more, by a seat, for a line or for none

@@ -1,6 +1,6 @@
 //! The book, with its calls.
 
-ghost use Rattle.std.specs.Prelude.{◌≡◌, ◌<◌, ◌≤◌, ◌+◌, ◌∷◌, [], length, nat_lt, false, IsTrue, IfOk, IfErr, IfSome, OnOk, OnErr, None, Some};
+ghost use Rattle.std.specs.Prelude.{◌≡◌, ◌<◌, ◌≤◌, ◌+◌, ◌∷◌, [], length, nat_lt, true, false, IsTrue, IfOk, IfErr, IfSome, OnOk, OnErr, None, Some};
 ghost use Rattle.journal_entries.specs.Journals.{entries};
 ghost use Rattle.journal_entries.specs.declared.limits.TheConstants.{MAX_RAW_SOURCE};
 ghost use Rattle.journal_entries.specs.declared.act.Act.TheVariants.{Made, Ticked, Declined, Closed};
@@ -12,6 +12,8 @@ ghost use Rattle.journal_rules.specs.Whys.{IsWhy};
 ghost use Rattle.book.specs.Shown.{adds, driver_count};
 ghost use Rattle.book.specs.Calls.{existing, MayNotTick, MayNotSend, raw_act, ticket_of_raw, update_by};
 ghost use Rattle.book.specs.Standing.{IsNew};
+ghost use Rattle.source_sink.specs.Causes.{Rose};
+ghost use Rattle.book.specs.Failing.{has_failure};
 ghost use Rattle.book.specs.Stored.{AreStored};
 
 use crate::document::Document;
@@ -24,6 +26,7 @@ use keeper::Keeper;
 use ot_op::Op;
 use ot_text::doc_text;
 use ot_units::{Name, Units};
+use project_histories::Projects;
 use rooms::Rooms;
 use std::alloc::{AllocError, Global};
 use std::marker::Model;
@@ -36,6 +39,8 @@ pub struct Book<K: Keeper> {
     pub(crate) documents: Documents,
     /// The clients that are in a document's room, with what they are still to be told of.
     pub(crate) rooms: Rooms,
+    /// The projects, with what was applied to their documents and not handed out.
+    pub(crate) projects: Projects,
     /// The clock, in milliseconds of the script.
     pub(crate) moment: u64,
     /// How many tokens were given.
@@ -59,7 +64,7 @@ impl<K: Keeper> Model for Book<K> {
 
     ghost view = { λ b. record { journal = entries b.journal; drivers = b.drivers; documents = K.documents b.keeper; faults = K.count b.keeper; start = b.start } };
 
-    ghost invariant = { λ b. IsBookWithKeeper b.journal b.documents.names b.documents.items b.rooms b.moment b.tokens b.owed b.drivers K.tells (K.documents b.keeper) (K.count b.keeper) b.start };
+    ghost invariant = { λ b. IsBookWithKeeper b.journal b.documents.names b.documents.items b.rooms b.projects b.moment b.tokens b.owed b.drivers K.tells (K.documents b.keeper) (K.count b.keeper) b.start };
 }
 
 impl<K: Keeper> Book<K> {
@@ -80,6 +85,7 @@ impl<K: Keeper> Book<K> {
             journal,
             documents: Documents::new(alloc),
             rooms: Rooms::new(alloc),
+            projects: Projects::new(alloc),
             moment: 0,
             tokens: 0,
             owed,
@@ -115,12 +121,19 @@ impl<K: Keeper> Book<K> {
         else {
             return Err(MakeFault::Memory);
         };
+        let Ok(owner) = project.copy(self.alloc) else {
+            return Err(MakeFault::Memory);
+        };
         let Ok(_sum) = make_room(&mut self.journal, self.owed, 1) else {
+            return Err(MakeFault::Memory);
+        };
+        let Ok(()) = self.projects.reserve_document() else {
             return Err(MakeFault::Memory);
         };
         let Ok(()) = self.documents.add(key, document) else {
             return Err(MakeFault::Memory);
         };
+        self.projects.add_document(owner);
         self.journal.push(entry);
         Ok(doc)
     }
@@ -254,10 +267,13 @@ impl<K: Keeper> Book<K> {
     }
 
     /// The keeper and the journal, for the end of a run. Where the keeper tells its documents, each that
-    /// was flushed stands in it as the journal has it at the version of its last flush.
+    /// was flushed stands in it as the journal has it at the version of its last flush. The keeper's
+    /// count didn't fall, and where the journal tells of a failure, it rose, or stands at its last value.
     pub fn ended(self) -> (K, Journal)
         ensures keeper { (K.documents result.0 ≡ self.documents) × (K.count result.0 ≡ self.faults) }
         ensures stored { IsTrue K.tells → AreStored (K.documents result.0) (entries result.1) }
+        ensures later { self.start ≤ self.faults }
+        ensures causes { has_failure self.journal ≡ true → Rose self.start self.faults }
         ensures entries { entries result.1 ≡ self.journal }
         ensures legal { IsLegal (entries result.1) }
     {

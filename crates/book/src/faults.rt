@@ -1,10 +1,11 @@
 //! What the calls of a book take, and why they refuse.
 
 ghost use Rattle.std.specs.Prelude.{◌≡◌, IfOk};
-ghost use Rattle.book.specs.Looking.{op_of};
+ghost use Rattle.book.specs.Looking.{item_by, op_of};
 
 use dup_check::{Decision, Snapshot};
 use expiring_lock::{Busy, Stale};
+use history_queue::Item;
 use journal_entries::Sources;
 use ot_op::{FormFault, Op};
 use ot_text::DocText;
@@ -47,6 +48,24 @@ impl Prepared {
             Decision::Apply { op, .. } => op.copy(alloc),
             Decision::Dup(_) | Decision::Refuse(_) => Ok(Op::empty(alloc)),
         }
+    }
+
+    // The item of the history for the operation that the decision applies, or `None` where it applies
+    // none.
+    pub(crate) fn item(&self, alloc: Global) -> Result<Option<Item>, AllocError>
+        ensures { IfOk result (λ item. item ≡ item_by self.now.look self.now.decision) }
+    {
+        let Decision::Apply { op, .. } = &self.decision else {
+            return Ok(None);
+        };
+        Ok(Some(Item {
+            doc: self.look.doc,
+            v: self.look.version,
+            op: op.copy(alloc)?,
+            user: self.look.update.user.copy(alloc)?,
+            ms: self.look.update.ms,
+            length_before: self.look.text.len() as u64,
+        }))
     }
 }
 
@@ -135,6 +154,14 @@ pub enum AcquireFault {
     Busy(Busy),
     /// It isn't cached, and was to be taken up without loading it.
     Uncached,
+    Memory,
+}
+
+/// Why no history is handed out.
+#[derive(Clone, Copy, Debug, PartialEq, Eq)]
+pub enum HandFault {
+    /// No document of the project was made.
+    NoProject,
     Memory,
 }
 

@@ -8,9 +8,10 @@ ghost use Rattle.journal_rules.specs.Deciding.{decided};
 ghost use Rattle.journal_rules.specs.Keeping.{cached};
 ghost use Rattle.journal_rules.specs.Locks.{Holds, next_token};
 ghost use Rattle.turn_rules.specs.Locking.{acquired, staleness};
+ghost use Rattle.project_histories.specs.Histories.{HasRoomFor, IsOfSome};
 ghost use Rattle.book.specs.Shown.{adds};
 ghost use Rattle.book.specs.Calls.{MayNotCommit, MayRefuse, acquire_refused, stale_in, told};
-ghost use Rattle.book.specs.Looking.{CanDecide, IsDecided, IsLookAt, IsOf};
+ghost use Rattle.book.specs.Looking.{CanDecide, IsDecided, IsLookAt, IsOf, PutsItem};
 
 use crate::book::{Book, entry_of};
 use crate::document::Taking;
@@ -20,8 +21,10 @@ use crate::mail::post;
 use crate::room::make_room;
 use dup_check::Snapshot;
 use expiring_lock::Stale;
+use history_queue::Item;
 use journal_entries::{Act, Cause, Outcome};
 use keeper::Keeper;
+use project_histories::Projects;
 
 impl<K: Keeper> Book<K> {
     /// Acquires a document's lock under the next token, and answers what the first update that waits is decided by.
@@ -92,7 +95,10 @@ impl<K: Keeper> Book<K> {
         if let Some(stale) = self.documents.check(at, token) {
             return Err(CommitFault::Stale(stale));
         }
-        let Ok(op) = prepared.copy_op(self.alloc) else {
+        let (Ok(op), Ok(item)) = (prepared.copy_op(self.alloc), prepared.item(self.alloc)) else {
+            return Err(CommitFault::Memory(prepared));
+        };
+        let Ok(()) = self.projects.reserve_item(at) else {
             return Err(CommitFault::Memory(prepared));
         };
         // No journal is so long that a version could pass 2^64.
@@ -102,6 +108,7 @@ impl<K: Keeper> Book<K> {
             unreachable!()
         };
         post(&mut self.rooms, length, update, &outcome);
+        put_item(&mut self.projects, at, item);
         self.journal.push(entry_of(
             by,
             Act::Committed {
@@ -187,5 +194,16 @@ pub(crate) fn never_given(token: u64) -> Stale
         Stale::Ended
     } else {
         Stale::Other(0)
+    }
+}
+
+// The item of a history, where there is one, is put behind the others of a document's project.
+fn put_item(projects: &mut Projects, doc: usize, item: Option<Item>)
+    requires of { IsOfSome doc projects.old }
+    requires room { HasRoomFor doc projects.old }
+    ensures { PutsItem doc item projects.old projects.new }
+{
+    if let Some(item) = item {
+        projects.push_item(doc, item);
     }
 }

@@ -17,12 +17,13 @@ use Rattle.book.specs.Looking.{IsLook}
 use Rattle.book.proofs.Keeping.{here_acquired}
 use Rattle.book.proofs.Roomed.{roomed_quiet_by}
 use Rattle.journal_sizes.proofs.Updates.{update_sized}
-use Rattle.book.proofs.Lists.{same_item}
+use Rattle.project_histories.proofs.Lists.{same_item}
 use Rattle.book.proofs.Acquirings.{next_unused}
 use Rattle.book.proofs.Tokens.{acquirings_short}
 use Rattle.book.proofs.Standing.{is_decidable}
 use Rattle.book.proofs.Settling.{agrees, short_look, ready}
 use Rattle.book.proofs.Locking.{acquired_look, acquire_empty, acquire_busy, acquire_free, acquired_book, may_acquire, token_below, waits_first}
+use Rattle.project_histories.proofs.Histories.{histories_by}
 use Rattle.book.proofs.Stored.{keeps_by}
 use Rattle.book.proofs.book.Book.acquire.Goals as goal
 
@@ -98,6 +99,7 @@ invariant_of-self-2 g c =
           (ap (λ (e : Entry). e.act) c.entry_of.ensures ∙ ap (λ n. Acquired c.args.doc (s.tokens + 1) n) c.take-until.ensures.until) row c.take-until.ensures.taken;
       roomed = roomed_quiet_by s.rooms (entries s.journal) (entries c.make_room.new.journal) (entries c.push.new.self) c.args.by.seat c.args.by.line (Acquired c.args.doc (s.tokens + 1) c.take-until.result) c.entry_of.result c.entry_of.ensures c.make_room.ensures.entries c.push.ensures.entries c.self.invariant.book.stands.legal tt refl (λ d. refl) c.self.invariant.roomed;
       keeps = keeps_by (entries s.journal) (entries c.make_room.new.journal) (entries c.push.new.self) c.args.by.seat c.args.by.line (Acquired c.args.doc (s.tokens + 1) c.take-until.result) c.entry_of.result c.entry_of.ensures c.make_room.ensures.entries c.push.ensures.entries (λ d o. refl) refl tt c.self.invariant.keeps;
+      histories = histories_by s.projects (entries s.journal) (entries c.make_room.new.journal) (entries c.push.new.self) c.args.by.seat c.args.by.line (Acquired c.args.doc (s.tokens + 1) c.take-until.result) c.entry_of.result c.entry_of.ensures c.make_room.ensures.entries c.push.ensures.entries c.self.invariant.book.stands.legal refl (λ p. refl) (λ p. refl) c.self.invariant.histories;
     }
 
 pub returns-in_default-look-clause-refused : goal.returns-in_default-look-clause-refused

@@ -4,6 +4,7 @@ use Rattle.book.proofs.Roomed.{roomed_quiet_by}
 use Rattle.journal_entries.specs.Journals.{entries}
 use Rattle.journal_entries.specs.declared.act.Act.TheVariants.{Closed}
 use Rattle.book.proofs.Booking.{closed_book, driver_owed}
+use Rattle.project_histories.proofs.Histories.{histories_by}
 use Rattle.book.proofs.Stored.{keeps_by}
 use Rattle.book.proofs.book.Book.close_driver.Goals as goal
 
@@ -29,4 +30,5 @@ invariant_of-self g c =
       book = closed_book s.journal c.push.new.self s.documents.items s.moment s.tokens s.owed s.drivers c.args.driver c.entry_of.result c.self.invariant.book c.push.ensures.entries c.push.ensures.spare (search rules) below (search (rules, c.requires.once, c.self.view_is));
       roomed = roomed_quiet_by s.rooms (entries s.journal) (entries s.journal) (entries c.push.new.self) c.args.by.seat c.args.by.line (Closed c.args.driver) c.entry_of.result c.entry_of.ensures refl c.push.ensures.entries c.self.invariant.book.stands.legal tt refl (λ d. refl) c.self.invariant.roomed;
       keeps = keeps_by (entries s.journal) (entries s.journal) (entries c.push.new.self) c.args.by.seat c.args.by.line (Closed c.args.driver) c.entry_of.result c.entry_of.ensures refl c.push.ensures.entries (λ d o. refl) refl tt c.self.invariant.keeps;
+      histories = histories_by s.projects (entries s.journal) (entries s.journal) (entries c.push.new.self) c.args.by.seat c.args.by.line (Closed c.args.driver) c.entry_of.result c.entry_of.ensures refl c.push.ensures.entries c.self.invariant.book.stands.legal refl (λ p. refl) (λ p. refl) c.self.invariant.histories;
     }

@@ -9,13 +9,14 @@ use Rattle.journal_entries.specs.declared.update.Update.{Update}
 use Rattle.journal_rules.specs.Documents.{update_at}
 use Rattle.journal_rules.proofs.Waits.{waits_sent}
 use Rattle.book.specs.Roomed.{posted_by}
-use Rattle.book.proofs.Lists.{same_item}
+use Rattle.project_histories.proofs.Lists.{same_item}
 use Rattle.book.proofs.Roomed.{room_for_one, roomed_committed, sourced}
 use Rattle.book.specs.Looking.{IsOf}
 use Rattle.book.specs.Shown.{Shown}
 use Rattle.book.proofs.Fenced.{first}
-use Rattle.book.proofs.Committing.{committed_book, decided_now, version_fits}
+use Rattle.book.proofs.Committing.{committed_book, committed_histories, decided_now, version_fits}
 use Rattle.book.proofs.Locking.{told_by, told_unmade, held_owed, some_waits}
+use Rattle.project_histories.proofs.Histories.{histories_roomier, histories_same, of_some}
 use Rattle.book.proofs.Stored.{keeps_by}
 use Rattle.book.proofs.book.Book.commit.Goals as goal
 
@@ -33,12 +34,46 @@ returns-in-Some-clause-refused g c =
     let low = c.if-at-len.false in
     rw (← c.self.view_is) (told_by s.journal s.documents.items s.moment s.tokens s.owed s.drivers c.args.prepared.look.doc c.args.prepared.look.token c.self.invariant.book (Some c.in-Some.stale) (omega (arith, len, low)) (λ d at. c.check.ensures d at ∙ c.in-Some.is))
 
-pub returns-in_default-copy_op-clause-refused : goal.returns-in_default-copy_op-clause-refused
-returns-in_default-copy_op-clause-refused g c =
+pub returns-in_default-2-clause-refused : goal.returns-in_default-2-clause-refused
+returns-in_default-2-clause-refused g c =
     let s = c.self.inside in
     let len = c.len.ensures in
     let low = c.if-at-len.false in
     rw (← c.self.view_is) (told_by s.journal s.documents.items s.moment s.tokens s.owed s.drivers c.args.prepared.look.doc c.args.prepared.look.token c.self.invariant.book None (omega (arith, len, low)) (λ d at. c.check.ensures d at ∙ c.in_default.is), refl)
+
+pub reserve_item-requires : goal.reserve_item-requires
+reserve_item-requires g c =
+    let s = c.self.inside in
+    let len = c.len.ensures in
+    let low = c.if-at-len.false in
+    let count = c.self.invariant.book.stands.count in
+    of_some c.args.prepared.look.doc s.projects (entries s.journal) c.self.invariant.histories (omega (arith, len, low, count))
+
+pub put_item-requires-clause-of : goal.put_item-requires-clause-of
+put_item-requires-clause-of g c =
+    let s = c.self.inside in
+    let j = entries s.journal in
+    let len = c.len.ensures in
+    let low = c.if-at-len.false in
+    let count = c.self.invariant.book.stands.count in
+    of_some c.args.prepared.look.doc c.reserve_item.new.self j (histories_roomier s.projects c.reserve_item.new.self j c.args.prepared.look.doc c.reserve_item.ensures.same c.self.invariant.histories) (omega (arith, len, low, count))
+
+pub returns-in_default-reserve_item-clause-refused : goal.returns-in_default-reserve_item-clause-refused
+returns-in_default-reserve_item-clause-refused g c =
+    let s = c.self.inside in
+    let len = c.len.ensures in
+    let low = c.if-at-len.false in
+    rw (← c.self.view_is) (told_by s.journal s.documents.items s.moment s.tokens s.owed s.drivers c.args.prepared.look.doc c.args.prepared.look.token c.self.invariant.book None (omega (arith, len, low)) (λ d at. c.check.ensures d at ∙ c.in_default.is), refl)
+
+pub invariant_of-self : goal.invariant_of-self
+invariant_of-self g c =
+    let s = c.self.inside in
+    record {
+      book = c.self.invariant.book;
+      roomed = c.self.invariant.roomed;
+      keeps = c.self.invariant.keeps;
+      histories = histories_roomier s.projects c.reserve_item.new.self (entries s.journal) c.args.prepared.look.doc c.reserve_item.ensures.same c.self.invariant.histories;
+    }
 
 pub push-requires : goal.push-requires
 push-requires g c =
@@ -72,8 +107,8 @@ settle-outcome-requires-clause-low g c = λ d at.
     let short = c.len-length.ensures.short in
     version_fits (entries c.self.inside.journal) c.self.inside.documents.items d c.args.prepared.look.doc c.self.invariant.book.stands at (omega (arith, value, short))
 
-pub invariant_of-self : goal.invariant_of-self
-invariant_of-self g c =
+pub invariant_of-self-2 : goal.invariant_of-self-2
+invariant_of-self-2 g c =
     let s = c.self.inside in
     let len = c.len.ensures in
     let low = c.if-at-len.false in
@@ -93,6 +128,9 @@ invariant_of-self g c =
       roomed = roomed_committed j c.entry_of.result look.doc look.token look.ticket c.settle-outcome.result u _ c.self.invariant.book.stands.legal act (first look j c.self.invariant.book.stands.legal of none) named own s.rooms c.post.new.rooms (entries c.push.new.self) c.push.ensures.entries book.stands.legal
           (λ k. c.post.ensures k ∙ ap (λ n. option_map (posted_by k u n c.settle-outcome.result) (member k s.rooms)) c.len-length.ensures.value) c.self.invariant.roomed;
       keeps = keeps_by j j (entries c.push.new.self) c.args.by.seat c.args.by.line (Committed look.doc look.token look.ticket c.settle-outcome.result) c.entry_of.result c.entry_of.ensures refl c.push.ensures.entries (λ d o. refl) refl tt c.self.invariant.keeps;
+      histories = histories_same c.put_item.new.projects (j ++ c.entry_of.result ∷ []) (entries c.push.new.self) c.push.ensures.entries
+          (committed_histories c.reserve_item.new.self c.put_item.new.projects j c.entry_of.result look c.args.prepared.decision c.in-Ok-Ok.item c.self.invariant.book.stands.legal of none (act ∙ ap (λ o. Committed look.doc look.token look.ticket o) c.settle-outcome.ensures.outcome)
+          c.in-Ok-Ok.ensures' c.put_item.ensures (histories_roomier s.projects c.reserve_item.new.self j look.doc c.reserve_item.ensures.same c.self.invariant.histories));
     }
 
 pub returns-clause-ok : goal.returns-clause-ok

@@ -13,6 +13,7 @@ use Rattle.book.specs.Shown.{Shown}
 use Rattle.book.proofs.Booking.{quiet_by}
 use Rattle.book.proofs.Roomed.{roomed_quiet_by}
 use Rattle.book.proofs.Serving.{edited_client, may_edit}
+use Rattle.project_histories.proofs.Histories.{histories_by}
 use Rattle.book.proofs.Stored.{keeps_by}
 use Rattle.book.proofs.book.Book.edit.Goals as goal
 
@@ -38,6 +39,7 @@ invariant_of-self-2 g c =
           c.self.invariant.book c.make_room.ensures.entries c.in-Ok.ensures.room c.push.ensures.entries c.push.ensures.spare (subst (λ n. IsAllowed j c.args.by.seat (Edited n c.in_ok-comp.comp)) number (subst (λ x. IsAllowed j c.args.by.seat (Edited c.args.client.now.client x)) (sym ok.0) (may_edit j c.args.by.seat c.args.client.now c.args.edit.now own c.requires.edit ok.1))) tt refl refl c.self.invariant.book.now_low;
       roomed = roomed_quiet_by s.rooms j (entries c.make_room.new.journal) (entries c.push.new.self) c.args.by.seat c.args.by.line (Edited c.client-client.result c.in_ok-comp.comp) c.entry_of.result c.entry_of.ensures c.make_room.ensures.entries c.push.ensures.entries c.self.invariant.book.stands.legal tt refl (λ d. refl) c.self.invariant.roomed;
       keeps = keeps_by j (entries c.make_room.new.journal) (entries c.push.new.self) c.args.by.seat c.args.by.line (Edited c.client-client.result c.in_ok-comp.comp) c.entry_of.result c.entry_of.ensures c.make_room.ensures.entries c.push.ensures.entries (λ d o. refl) refl tt c.self.invariant.keeps;
+      histories = histories_by s.projects j (entries c.make_room.new.journal) (entries c.push.new.self) c.args.by.seat c.args.by.line (Edited c.client-client.result c.in_ok-comp.comp) c.entry_of.result c.entry_of.ensures c.make_room.ensures.entries c.push.ensures.entries c.self.invariant.book.stands.legal refl (λ p. refl) (λ p. refl) c.self.invariant.histories;
     }
 
 pub returns-clause-client : goal.returns-clause-client

@@ -15,6 +15,7 @@ use Rattle.book.specs.Standing.{IsDocument}
 use Rattle.book.proofs.Booking.{quiet_by}
 use Rattle.book.proofs.Roomed.{roomed_joined, roomed_same}
 use Rattle.book.proofs.Serving.{joined_client}
+use Rattle.project_histories.proofs.Histories.{histories_by}
 use Rattle.book.proofs.Stored.{keeps_by}
 use Rattle.book.proofs.book.Book.join.Goals as goal
 
@@ -49,6 +50,7 @@ invariant_of-self-2 g c =
       roomed = roomed_same c.join_with_room.new.self (j ++ c.entry_of.result ∷ []) (entries c.push.new.self) (c.push.ensures.entries ∙ ap (λ l. l ++ c.entry_of.result ∷ []) c.make_room.ensures.entries)
           (roomed_joined s.rooms c.join_with_room.new.self j c.entry_of.result c.client-number.result c.args.doc c.version-version.result (FIRST_SOURCE + c.len-source.result) c.len-waits.result c.in-Ok-Ok.named c.args.track None c.self.invariant.book.stands.legal (ap (λ (e : Entry). e.act) c.entry_of.ensures) (omega (arith, waits)) c.in-Ok-join_with_room.ensures.joined c.self.invariant.roomed);
       keeps = keeps_by j (entries c.make_room.new.journal) (entries c.push.new.self) c.args.by.seat c.args.by.line (Joined c.client-number.result c.args.doc c.in-Ok-Ok.named c.args.track None (FIRST_SOURCE + c.len-source.result) c.version-version.result) c.entry_of.result c.entry_of.ensures c.make_room.ensures.entries c.push.ensures.entries (λ d o. refl) refl tt c.self.invariant.keeps;
+      histories = histories_by s.projects j (entries c.make_room.new.journal) (entries c.push.new.self) c.args.by.seat c.args.by.line (Joined c.client-number.result c.args.doc c.in-Ok-Ok.named c.args.track None (FIRST_SOURCE + c.len-source.result) c.version-version.result) c.entry_of.result c.entry_of.ensures c.make_room.ensures.entries c.push.ensures.entries c.self.invariant.book.stands.legal refl (λ p. refl) (λ p. refl) c.self.invariant.histories;
     }
 
 pub returns-clause-ok : goal.returns-clause-ok

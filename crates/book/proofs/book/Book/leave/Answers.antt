@@ -10,6 +10,7 @@ use Rattle.book.specs.Shown.{Shown}
 use Rattle.book.proofs.Booking.{quiet_by}
 use Rattle.book.proofs.Roomed.{roomed_left, roomed_same}
 use Rattle.book.proofs.Serving.{left_client, may_leave}
+use Rattle.project_histories.proofs.Histories.{histories_by}
 use Rattle.book.proofs.Stored.{keeps_by}
 use Rattle.book.proofs.book.Book.leave.Goals as goal
 
@@ -25,6 +26,7 @@ invariant_of-self-2 g c =
       roomed = roomed_same c.leave.new.self (j ++ c.entry_of.result ∷ []) (entries c.push.new.self) (c.push.ensures.entries ∙ ap (λ l. l ++ c.entry_of.result ∷ []) c.make_room.ensures.entries)
           (roomed_left s.rooms c.leave.new.self j c.entry_of.result c.client-number.result c.self.invariant.book.stands.legal (ap (λ (e : Entry). e.act) c.entry_of.ensures) c.leave.ensures c.self.invariant.roomed);
       keeps = keeps_by j (entries c.make_room.new.journal) (entries c.push.new.self) c.args.by.seat c.args.by.line (Left c.client-number.result) c.entry_of.result c.entry_of.ensures c.make_room.ensures.entries c.push.ensures.entries (λ d o. refl) refl tt c.self.invariant.keeps;
+      histories = histories_by s.projects j (entries c.make_room.new.journal) (entries c.push.new.self) c.args.by.seat c.args.by.line (Left c.client-number.result) c.entry_of.result c.entry_of.ensures c.make_room.ensures.entries c.push.ensures.entries c.self.invariant.book.stands.legal refl (λ p. refl) (λ p. refl) c.self.invariant.histories;
     }
 
 pub returns-clause-client : goal.returns-clause-client

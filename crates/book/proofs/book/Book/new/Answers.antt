@@ -2,6 +2,7 @@ use Rattle.std.proofs.Common.{◌∙◌}
 use Rattle.journal_entries.specs.Journals.{entries}
 use Rattle.book.proofs.Booking.{new_book}
 use Rattle.book.proofs.Roomed.{roomed_none}
+use Rattle.project_histories.proofs.Histories.{histories_none}
 use Rattle.book.proofs.Stored.{keeps_none}
 use Rattle.book.proofs.book.Book.new.Goals as goal
 
@@ -11,5 +12,6 @@ invariant_of-result g c =
     record {
       book = rw c.new.ensures (new_book c.reserve.new.self c.owed_at_first-owed.result c.args.drivers empty c.owed_at_first-owed.ensures c.in-Ok.ensures.room);
       roomed = roomed_none c.new-2.result (entries c.reserve.new.self) empty c.new-2.ensures;
+      histories = histories_none c.new-3.result (entries c.reserve.new.self) empty c.new-3.ensures.projects c.new-3.ensures.places;
       keeps = keeps_none (entries c.reserve.new.self) empty c.faults-start.ensures;
     }

@@ -14,9 +14,10 @@ use Rattle.mail_places.specs.Places.{told_at}
 use Rattle.book.specs.Roomed.{IsClientOf}
 use Rattle.book.specs.Shown.{Shown}
 use Rattle.book.proofs.Booking.{quiet_by}
-use Rattle.book.proofs.Lists.{same_item}
+use Rattle.project_histories.proofs.Lists.{same_item}
 use Rattle.book.proofs.Roomed.{first_told, none_told, roomed_got, roomed_same, sourced_if_told}
 use Rattle.book.proofs.Serving.{got_client, may_get}
+use Rattle.project_histories.proofs.Histories.{histories_by}
 use Rattle.book.proofs.Stored.{keeps_by}
 use Rattle.book.proofs.book.Book.receive.Goals as goal
 
@@ -66,6 +67,7 @@ invariant_of-self-2 g c =
       roomed = roomed_same c.pop-place.new.self (j ++ c.entry_of.result ∷ []) (entries c.push.new.self) (c.push.ensures.entries ∙ ap (λ l. l ++ c.entry_of.result ∷ []) c.make_room.ensures.entries)
           (roomed_got s.rooms c.pop-place.new.self j c.entry_of.result c.client-number.result (brief_of c.in-Some-2.message) c.self.invariant.book.stands.legal (ap (λ (e : Entry). e.act) act) c.pop-place.ensures.rest c.self.invariant.roomed);
       keeps = keeps_by j (entries c.make_room.new.journal) (entries c.push.new.self) c.args.by.seat c.args.by.line (Got c.client-number.result (brief_of c.in-Some-2.message)) c.entry_of.result act c.make_room.ensures.entries c.push.ensures.entries (λ d o. refl) refl tt c.self.invariant.keeps;
+      histories = histories_by s.projects j (entries c.make_room.new.journal) (entries c.push.new.self) c.args.by.seat c.args.by.line (Got c.client-number.result (brief_of c.in-Some-2.message)) c.entry_of.result act c.make_room.ensures.entries c.push.ensures.entries c.self.invariant.book.stands.legal refl (λ p. refl) (λ p. refl) c.self.invariant.histories;
     }
 
 pub returns-clause-first : goal.returns-clause-first

@@ -9,13 +9,14 @@ use Rattle.journal_entries.specs.declared.update.Outcome.TheVariants.{Refused}
 use Rattle.journal_rules.specs.Documents.{update_at}
 use Rattle.journal_rules.proofs.Waits.{waits_sent}
 use Rattle.book.specs.Roomed.{posted_by}
-use Rattle.book.proofs.Lists.{same_item}
+use Rattle.project_histories.proofs.Lists.{same_item}
 use Rattle.book.proofs.Roomed.{room_for_one, roomed_committed, sourced}
 use Rattle.turn_rules.specs.Locking.{staleness}
 use Rattle.book.specs.Shown.{Shown}
 use Rattle.book.specs.Calls.{MayRefuse}
 use Rattle.book.proofs.Locking.{told_by, told_unmade, held_owed, refused_book, some_waits}
 use Rattle.journal_entries.specs.declared.act.Act.TheVariants.{Committed}
+use Rattle.project_histories.proofs.Histories.{histories_by, refused_none}
 use Rattle.book.proofs.Stored.{keeps_by}
 use Rattle.book.proofs.book.Book.refuse.Goals as goal
 
@@ -76,6 +77,7 @@ invariant_of-self g c =
       roomed = roomed_committed j c.entry_of.result c.args.doc c.args.token c.args.ticket (Refused c.args.cause) u may.rest c.self.invariant.book.stands.legal (ap (λ (e : Entry). e.act) c.entry_of.ensures) may.first named own s.rooms c.post.new.rooms (entries c.push.new.self) c.push.ensures.entries book.stands.legal
           (λ k. c.post.ensures k ∙ ap (λ n. option_map (posted_by k u n (Refused c.args.cause)) (member k s.rooms)) c.len-length.ensures.value) c.self.invariant.roomed;
       keeps = keeps_by j j (entries c.push.new.self) c.args.by.seat c.args.by.line (Committed c.args.doc c.args.token c.args.ticket (Refused c.args.cause)) c.entry_of.result c.entry_of.ensures refl c.push.ensures.entries (λ d o. refl) refl tt c.self.invariant.keeps;
+      histories = histories_by s.projects j j (entries c.push.new.self) c.args.by.seat c.args.by.line (Committed c.args.doc c.args.token c.args.ticket (Refused c.args.cause)) c.entry_of.result c.entry_of.ensures refl c.push.ensures.entries c.self.invariant.book.stands.legal refl (λ p. refused_none p j c.args.doc c.args.token c.args.ticket c.args.cause) (λ p. refl) c.self.invariant.histories;
     }
 
 pub returns-clause-ok : goal.returns-clause-ok

@@ -26,6 +26,7 @@ use Rattle.book.proofs.Lists.{none_within}
 use Rattle.book.proofs.Rejoining.{left_doc, left_high, left_sized, left_told, may_return, missed_caught, missed_sized}
 use Rattle.book.proofs.Roomed.{roomed_again, roomed_joined, roomed_same}
 use Rattle.book.proofs.Serving.{returned_client}
+use Rattle.project_histories.proofs.Histories.{histories_by, histories_same}
 use Rattle.book.proofs.Stored.{keeps_by, keeps_same}
 use Rattle.book.proofs.book.Book.rejoin.Goals as goal
 
@@ -184,6 +185,7 @@ invariant_of-self-in_default-caught_up g c =
       roomed = roomed_same c.leave.new.self j (entries c.make_room.new.journal) c.make_room.ensures.entries
           (roomed_again s.rooms c.join_with_room.new.self c.leave.new.self j c.client-number.result c.in-Some-Some-Some.doc _ _ gone c.in-Ok-join_with_room.ensures.joined c.leave.ensures c.self.invariant.roomed);
       keeps = keeps_same j (entries c.make_room.new.journal) c.make_room.ensures.entries c.self.invariant.keeps;
+      histories = histories_same s.projects j (entries c.make_room.new.journal) c.make_room.ensures.entries c.self.invariant.histories;
     }
 
 pub invariant_of-self-2 : goal.invariant_of-self-2
@@ -220,6 +222,7 @@ invariant_of-self-2 g c =
       roomed = roomed_same c.join_with_room.new.self (j ++ c.entry_of.result ∷ []) (entries c.push.new.self) (c.push.ensures.entries ∙ ap (λ l. l ++ c.entry_of.result ∷ []) c.make_room.ensures.entries)
           (roomed_joined s.rooms c.join_with_room.new.self j c.entry_of.result c.client-number.result c.in-Some-Some-Some.doc c.version-version.result (FIRST_SOURCE + c.len-source.result) c.len-waits.result c.in-Ok-Ok.user c.in-Some-Some-Some.track (Some c.version-since.result) c.self.invariant.book.stands.legal (ap (λ (e : Entry). e.act) c.entry_of.ensures) (omega (arith, waits)) c.in-Ok-join_with_room.ensures.joined c.self.invariant.roomed);
       keeps = keeps_by j (entries c.make_room.new.journal) (entries c.push.new.self) c.args.by.seat c.args.by.line (back_act was.client was.now j) c.entry_of.result entry c.make_room.ensures.entries c.push.ensures.entries (λ d o. refl) refl tt c.self.invariant.keeps;
+      histories = histories_by s.projects j (entries c.make_room.new.journal) (entries c.push.new.self) c.args.by.seat c.args.by.line (back_act was.client was.now j) c.entry_of.result entry c.make_room.ensures.entries c.push.ensures.entries c.self.invariant.book.stands.legal refl (λ p. refl) (λ p. refl) c.self.invariant.histories;
     }
 
 pub returns-clause-ok : goal.returns-clause-ok

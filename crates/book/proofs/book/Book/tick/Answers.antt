@@ -3,6 +3,7 @@ use Rattle.journal_entries.specs.Journals.{entries}
 use Rattle.journal_entries.specs.declared.act.Act.TheVariants.{Ticked}
 use Rattle.book.proofs.Roomed.{roomed_quiet_by}
 use Rattle.book.proofs.Booking.{quiet_by}
+use Rattle.project_histories.proofs.Histories.{histories_by}
 use Rattle.book.proofs.Stored.{keeps_by}
 use Rattle.book.proofs.book.Book.tick.Goals as goal
 
@@ -17,4 +18,5 @@ invariant_of-self-2 g c =
           c.self.invariant.book c.make_room.ensures.entries c.in-Ok.ensures.room c.push.ensures.entries c.push.ensures.spare (omega (arith, now_is, now_low, within)) tt refl refl (omega (arith, now_low, within));
       roomed = roomed_quiet_by s.rooms (entries s.journal) (entries c.make_room.new.journal) (entries c.push.new.self) c.args.by.seat c.args.by.line (Ticked c.args.ms) c.entry_of.result c.entry_of.ensures c.make_room.ensures.entries c.push.ensures.entries c.self.invariant.book.stands.legal tt refl (λ d. refl) c.self.invariant.roomed;
       keeps = keeps_by (entries s.journal) (entries c.make_room.new.journal) (entries c.push.new.self) c.args.by.seat c.args.by.line (Ticked c.args.ms) c.entry_of.result c.entry_of.ensures c.make_room.ensures.entries c.push.ensures.entries (λ d o. refl) refl tt c.self.invariant.keeps;
+      histories = histories_by s.projects (entries s.journal) (entries c.make_room.new.journal) (entries c.push.new.self) c.args.by.seat c.args.by.line (Ticked c.args.ms) c.entry_of.result c.entry_of.ensures c.make_room.ensures.entries c.push.ensures.entries c.self.invariant.book.stands.legal refl (λ p. refl) (λ p. refl) c.self.invariant.histories;
     }

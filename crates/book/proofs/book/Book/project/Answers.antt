@@ -1,0 +1,22 @@
+use Rattle.std.proofs.Common.{◌∙◌, ◌<◌, length, sym, ap, subst, arith}
+use Rattle.std.specs.Prelude.{Some}
+use Rattle.journal_entries.specs.Journals.{entries}
+use Rattle.project_histories.specs.Handing.{projects_of}
+use Rattle.book.specs.Shown.{Shown}
+use Rattle.book.proofs.Handing.{as_many_projects, stands_at}
+use Rattle.book.proofs.book.Book.project.Goals as goal
+
+pub name-requires : goal.name-requires
+name-requires g c =
+    let s = c.self.inside in
+    let within = subst (λ (v : Shown). c.args.place < length (projects_of v.journal)) (sym c.self.view_is) c.requires in
+    let many = as_many_projects s.projects (entries s.journal) c.self.invariant.histories in
+    omega (arith, within, many)
+
+pub returns : goal.returns
+returns g c =
+    let s = c.self.inside in
+    let j = entries s.journal in
+    let within = subst (λ (v : Shown). c.args.place < length (projects_of v.journal)) (sym c.self.view_is) c.requires in
+    let d = stands_at c.args.place s.projects j c.self.invariant.histories within in
+    rw (← c.self.view_is) (d.named ∙ ap (λ n. Some n) (sym (c.name.ensures d.x d.at)))
