@@ -3,6 +3,7 @@
 
 ghost use Rattle.std.specs.Prelude.{◌≡◌, ◌∷◌, [], OnOk, OnErr, IfOk, IfErr, None, true, false};
 ghost use Rattle.book.specs.Calls.{MayRefuse, acquire_refused, told};
+ghost use Rattle.book.specs.Going.{with_journal};
 ghost use Rattle.book.specs.Looking.{CanDecide, IsDecided, IsLookAt};
 ghost use Rattle.book.specs.Shown.{adds};
 ghost use Rattle.journal_entries.specs.declared.act.Act.TheVariants.{Committed};
@@ -45,7 +46,7 @@ pub enum DrainEnd {
 pub fn drain<K: Keeper>(alloc: Global, book: &mut Book<K>, by: By, doc: u32, most: u64) -> DrainEnd
     requires made { IsMade doc book.old.journal }
     ensures drained { Drained (entry_by by.seat by.line) doc most book.old.journal book.new.journal result }
-    ensures drivers { book.new.drivers ≡ book.old.drivers }
+    ensures rest { book.new ≡ with_journal book.old book.new.journal }
 {
     let mut count = 0;
     'draining: while count < most {
@@ -73,7 +74,7 @@ fn drain_one<K: Keeper>(
     ensures drains { OnOk result (DrainsOne (entry_by by.seat by.line) Alone doc book.old.journal book.new.journal) }
     ensures refused { IfErr result (λ f. told f ≡ acquire_refused doc book.old.journal) }
     ensures kept { OnErr result (book.new ≡ book.old) }
-    ensures drivers { book.new.drivers ≡ book.old.drivers }
+    ensures rest { book.new ≡ with_journal book.old book.new.journal }
 {
     book.legal();
     let look = book.acquire(by, doc)?;
@@ -89,7 +90,7 @@ fn settle<K: Keeper>(alloc: Global, book: &mut Book<K>, by: By, look: Snapshot)
     requires may { MayRefuse book.old.journal by.seat look.doc look.token look.ticket NoMemory }
     requires fresh { staleness look.doc look.token book.old.journal ≡ None }
     ensures settles { Settles (entry_by by.seat by.line) Alone true look.doc look.token book.old.journal book.new.journal }
-    ensures drivers { book.new.drivers ≡ book.old.drivers }
+    ensures rest { book.new ≡ with_journal book.old book.new.journal }
 {
     let (doc, token) = (look.doc, look.token);
     commit(alloc, book, by, look);
@@ -108,7 +109,7 @@ fn commit<K: Keeper>(alloc: Global, book: &mut Book<K>, by: By, look: Snapshot)
     ensures commits { Turn Alone (Under (entry_by by.seat by.line) look.doc look.token (IsCommit look.doc look.token)) book.old.journal book.new.journal }
     ensures held { Holds by.seat look.doc look.token book.new.journal }
     ensures fresh { staleness look.doc look.token book.new.journal ≡ None }
-    ensures drivers { book.new.drivers ≡ book.old.drivers }
+    ensures rest { book.new ≡ with_journal book.old book.new.journal }
 {
     let (doc, token, ticket) = (look.doc, look.token, look.ticket);
     if !commit_decision(alloc, book, by, look) {

@@ -7,6 +7,7 @@ ghost use Rattle.ranges_tracker.specs.Kept.{IsKept};
 ghost use Rattle.turn_rules.specs.Locking.{staleness};
 ghost use Rattle.turn_rules.specs.Turns.{entry_by};
 ghost use Rattle.book.specs.Flushing.{IsKeptLook};
+ghost use Rattle.book.specs.Going.{GoesOn};
 ghost use Rattle.flush_manager.specs.Flushes.{Flushes, Puts};
 
 use book::{AcquireFault, Book, By, FlushFault, KeptLook, PreparedKept};
@@ -33,7 +34,7 @@ pub enum FlushEnd {
 /// end.
 pub fn flush_doc<K: Keeper>(alloc: Global, book: &mut Book<K>, by: By, doc: u32) -> FlushEnd
     ensures flushes { Flushes (entry_by by.seat by.line) doc book.old.journal book.new.journal result }
-    ensures drivers { book.new.drivers ≡ book.old.drivers }
+    ensures goes { GoesOn K.tells book.old book.new }
 {
     book.legal();
     let look = match book.acquire_any(by, doc) {
@@ -58,7 +59,7 @@ fn put<K: Keeper>(alloc: Global, book: &mut Book<K>, by: By, look: KeptLook) -> 
     requires ready { IsKept look.text look.version look.ranges }
     requires fresh { staleness look.doc look.token book.old.journal ≡ None }
     ensures puts { Puts (entry_by by.seat by.line) look.doc look.token book.old.journal book.new.journal result }
-    ensures drivers { book.new.drivers ≡ book.old.drivers }
+    ensures goes { GoesOn K.tells book.old book.new }
 {
     let Ok(kept) = kept_of(alloc, &look) else {
         return FlushEnd::Memory;

@@ -1,6 +1,8 @@
-//! Who puts documents into their keeper: `flush_doc`.
+//! Who puts documents into their keeper: `flush_doc` one of them, `flush_all` each that needs it.
 #![tactic(auto)]
 
+mod all;
 mod flush;
 
+pub use all::flush_all;
 pub use flush::{FlushEnd, flush_doc};

@@ -14,7 +14,7 @@ use Rattle.ending_rules.proofs.Upkeep.{stays_ended}
 use Rattle.session_lines.specs.Standing.{AreBySessions}
 use Rattle.run_rules.specs.Completing.{AreKept, has_flush_failed_at_end}
 use Rattle.run_rules.specs.Ending.{at_end, Ends}
-use Rattle.run_rules.specs.Follows.{Follows, FollowsUnflushed}
+use Rattle.run_rules.specs.Follows.{Follows}
 use Rattle.run_rules.specs.Threads.{Crew, FollowsTogether}
 use Rattle.turn_rules.specs.Turns.{entry_by}
 use Rattle.run_rules.proofs.Bridge.{suffice}
@@ -30,9 +30,6 @@ ended sessions left last legal beyond x =
 
 pub follows_ended : (lines : List Line) (sessions : ℕ) (journal : List Entry) → IsLegal journal → AreBySessions sessions lines → Follows lines sessions journal → HasEnded journal
 follows_ended lines sessions journal legal by f = ended sessions (f.done ++ entry_by 0 None (Closed 0) ∷ []) journal legal (of_lines sessions lines f.done by f.leads) f.ends
-
-pub unflushed_ended : (lines : List Line) (sessions : ℕ) (journal : List Entry) → IsLegal journal → AreBySessions sessions lines → FollowsUnflushed lines sessions journal → HasEnded journal
-unflushed_ended lines sessions journal legal by f = suffice sessions ((f.done ++ entry_by 0 None (Closed 0) ∷ []) ++ at_end (Ticked LOCK_LIFE) ∷ []) journal legal (of_lines sessions lines f.done by f.leads) f.ends
 
 pub together_ended : (crew : Crew) (lines : List Line) (sessions : ℕ) (journal : List Entry) → IsLegal journal → AreBySessions sessions lines → FollowsTogether crew lines sessions journal → HasEnded journal
 together_ended crew lines sessions journal legal by f = ended sessions (f.start ++ f.between) journal legal (of_together sessions crew lines by journal f) f.ends

@@ -25,6 +25,8 @@ use Rattle.turn_rules.specs.Flushing.{IsPut, FlushesFrom, IsWholeFlush}
 use Rattle.turn_rules.specs.Locking.{acquired}
 use Rattle.run_rules.specs.Plain.{needs_flush, is_behind}
 use Rattle.turn_rules.specs.Turns.{Alone, entry_by}
+use Rattle.turn_rules.proofs.Flushing.{IsPutting, flush_keeps, flush_makings, flush_other, flush_version, kept_then, putting}
+use Rattle.turn_rules.proofs.Kept.{kept_within}
 use Rattle.run_rules.proofs.Whole.{IsStill, made_under, stands, still_one}
 
 -- ---- nothing is missing
@@ -83,101 +85,6 @@ upkeep_only (suc n) left last x =
     let b = upkeep_if (needs_flush n x.0) n x.0 last x.2 in
     (a.0 ++ b.0, b.1 ∙ ap (λ (j : List Entry). j ++ b.0) a.1 ∙ append_assoc left a.0 b.0, All-append IsUpkeep a.0 b.0 a.2 b.2)
 
--- ---- what is kept is at most the version
-base_grows : (ms more : List Making) (d : ℕ) → base_in (slice_get ms d) ≤ base_in (slice_get (ms ++ more) d)
-base_grows ms more d = go (slice_get ms d) refl
-  where
-    go : (o : Option Making) → slice_get ms d ≡ o → base_in o ≤ base_in (slice_get (ms ++ more) d)
-    go None e = omega arith
-    go (Some m) e = let f : base_in (slice_get (ms ++ more) d) ≡ base_in (Some m) = ap base_in (front ms more d m e) in omega (arith, f)
-
-version_grows : (d : ℕ) (h : List Entry) (e : Entry) → version d h ≤ version d (h ++ e ∷ [])
-version_grows d h e =
-    let b = base_grows (makings h) (making_of e.act) d in
-    let m : base d (h ++ e ∷ []) ≡ base_in (slice_get (makings h ++ making_of e.act) d) = ap (λ (ms : List Making). base_in (slice_get ms d)) (makings-push h e) in
-    let l : length (applied_list d (h ++ e ∷ [])) ≡ length (applied_list d h) + length (items_by d h e.act) = ap length (applied_list-push d h e) ∙ length-append (applied_list d h) (items_by d h e.act) in
-    omega (arith, b, m, l)
-
-abbrev KeepsWithin : ℕ → List Entry → Type 0
-KeepsWithin d j = (v : ℕ) → kept d j ≡ Some v → v ≤ version d j
-
-kept_within : (d : ℕ) (j : List Entry) → IsLegal j → KeepsWithin d j
-kept_within d = by_last (λ j. KeepsWithin d j)
-    (λ v is. (let f : None ≡ Some v = sym (kept-none d) ∙ is in absurd (cc)))
-    (λ h e legal may p v is. by h e p v e.act refl may (sym (kept-push d h e) ∙ is))
-  where
-    still : (h : List Entry) (e : Entry) → KeepsWithin d h → (v : ℕ) → kept d h ≡ Some v → v ≤ version d (h ++ e ∷ [])
-    still h e p v is = let a = p v is in let b = version_grows d h e in omega (arith, a, b)
-
-    by : (h : List Entry) (e : Entry) → KeepsWithin d h → (v : ℕ) (act : Act) → e.act ≡ act → IsAllowed h e.seat act → kept_by d act (kept d h) ≡ Some v → v ≤ version d (h ++ e ∷ [])
-    by h e p v (Flushed doc token w) act_is row is = go (eqb doc d) refl is
-      where
-        go : (same : Bool) → eqb doc d ≡ same → (if same then Some w else kept d h) ≡ Some v → v ≤ version d (h ++ e ∷ [])
-        go true same is =
-            let a : w ≡ v = some_same w v is in
-            let b : version doc h ≡ version d h = ap (λ (k : ℕ). version k h) (eqb-true doc d same) in
-            let c = version_grows d h e in
-            let r : w ≡ version doc h = row.v_is in
-            omega (arith, a, b, c, r)
-        go false same is = still h e p v is
-    by h e p v _ act_is row is = still h e p v is
-
--- ---- one flush
-version_still : (d : ℕ) (h : List Entry) (e : Entry) → making_of e.act ≡ [] → items_by d h e.act ≡ [] → version d (h ++ e ∷ []) ≡ version d h
-version_still d h e makes items =
-    ap₂ (λ (m : List Making) (l : List Item). base_in (slice_get m d) + length l) (makings-push h e ∙ ap (λ m. makings h ++ m) makes ∙ append-nil (makings h))
-    (applied_list-push d h e ∙ ap (λ l. applied_list d h ++ l) items ∙ append-nil (applied_list d h))
-
-makings_still : (h : List Entry) (e : Entry) → making_of e.act ≡ [] → makings (h ++ e ∷ []) ≡ makings h
-makings_still h e makes = makings-push h e ∙ ap (λ m. makings h ++ m) makes ∙ append-nil (makings h)
-
--- what was put makes and applies nothing
-record IsPutting (put : Act) : Type 0 where
-  makes_not : making_of put ≡ []
-  items_not : (d : ℕ) (h : List Entry) → items_by d h put ≡ []
-
-putting : (doc token : ℕ) (put : Act) → IsPut doc token put → IsPutting put
-putting doc token put (inl x) = subst IsPutting (sym x.1) (record { makes_not = refl; items_not = λ d h. refl })
-putting doc token put (inr x) = subst IsPutting (sym x.2) (record { makes_not = refl; items_not = λ d h. refl })
-
-module _ (doc : ℕ) (left last : List Entry) (token : ℕ) (put : Act) (is : last ≡ left ++ map at_end (acquired doc left ∷ put ∷ Released doc token ∷ [])) (puts : IsPutting put) where
-  abbrev a : Entry
-  a = at_end (acquired doc left)
-
-  abbrev f : Entry
-  f = at_end put
-
-  abbrev r : Entry
-  r = at_end (Released doc token)
-
-  abbrev j1 : List Entry
-  j1 = left ++ a ∷ []
-
-  abbrev j2 : List Entry
-  j2 = j1 ++ f ∷ []
-
-  step_by_step : last ≡ j2 ++ r ∷ []
-  step_by_step = is ∙ sym (append_assoc left (a ∷ f ∷ []) (r ∷ [])) ∙ ap (λ (j : List Entry). j ++ r ∷ []) (sym (append_assoc left (a ∷ []) (f ∷ [])))
-
-  flush_makings : makings last ≡ makings left
-  flush_makings = ap makings step_by_step ∙ makings_still j2 r refl ∙ makings_still j1 f puts.makes_not ∙ makings_still left a refl
-
-  flush_version : (d : ℕ) → version d last ≡ version d left
-  flush_version d = ap (version d) step_by_step ∙ version_still d j2 r refl refl ∙ version_still d j1 f puts.makes_not (puts.items_not d j1) ∙ version_still d left a refl refl
-
-  kept_then : (d : ℕ) → kept d last ≡ kept_by d put (kept d left)
-  kept_then d = ap (kept d) step_by_step ∙ kept-push d j2 r ∙ kept-push d j1 f ∙ ap (λ k. kept_by d put k) (kept-push d left a)
-
-  flush_other : (d : ℕ) → doc ≢ d → IsPut doc token put → kept d last ≡ kept d left
-  flush_other d other (inl x) = kept_then d ∙ ap (λ (act : Act). kept_by d act (kept d left)) x.1 ∙ ap (λ b. if b then Some x.0 else kept d left) (ne_eqb doc d other)
-  flush_other d other (inr x) = kept_then d ∙ ap (λ (act : Act). kept_by d act (kept d left)) x.2
-
-  flush_keeps : IsLegal last → (v : ℕ) → put ≡ Flushed doc token v → kept doc last ≡ Some (version doc last)
-  flush_keeps legal v put_is =
-      let row = subst (λ (act : Act). IsAllowed j1 0 act) put_is (allowed_next j1 f (r ∷ []) (subst IsLegal (step_by_step ∙ append_assoc j1 (f ∷ []) (r ∷ [])) legal)) in
-      let at : v ≡ version doc last = row.v_is ∙ version_still doc left a refl refl ∙ sym (flush_version doc) in
-      kept_then doc ∙ ap (λ (act : Act). kept_by doc act (kept doc left)) put_is ∙ ap (λ b. if b then Some v else kept doc left) (eq-eqb doc doc refl) ∙ ap (λ (n : ℕ). Some n) at
-
 -- ---- all of them
 any_front : (front back : List Entry) → has_flush_failed_at_end (front ++ back) ≡ false → has_flush_failed_at_end front ≡ false
 any_front front back e = go (has_flush_failed_at_end front) (sym (list_any-append is_flush_failed_at_end front back) ∙ e)
@@ -217,14 +124,14 @@ one_flush true n left last is legal none x =
     let w = whole_flush 0 None n (λ look. []) left last x in
     let puts = putting n (next_token left) w.put w.is_put in
     record {
-      same_makings = flush_makings n left last (next_token left) w.put w.last_is puts;
-      same_versions = flush_version n left last (next_token left) w.put w.last_is puts;
-      others = λ d other. flush_other n left last (next_token left) w.put w.last_is puts d other w.is_put;
+      same_makings = flush_makings 0 None n left last (next_token left) w.put w.last_is puts;
+      same_versions = flush_version 0 None n left last (next_token left) w.put w.last_is puts;
+      others = λ d other. flush_other 0 None n left last (next_token left) w.put w.last_is puts d other w.is_put;
       its_own = by w puts w.is_put;
     }
   where
     by : (w : IsWholeFlush at_end n left last) → IsPutting w.put → IsPut n (next_token left) w.put → kept n last ≡ Some (version n last)
-    by w puts (inl p) = flush_keeps n left last (next_token left) w.put w.last_is puts legal p.0 p.1
+    by w puts (inl p) = flush_keeps 0 None n left last (next_token left) w.put w.last_is puts legal p.0 p.1
     by w puts (inr p) =
         let at : last ≡ left ++ map at_end (acquired n left ∷ FlushFailed n (next_token left) p.0 p.1 ∷ Released n (next_token left) ∷ []) =
         w.last_is ∙ ap (λ (act : Act). left ++ map at_end (acquired n left ∷ act ∷ Released n (next_token left) ∷ [])) p.2 in
@@ -277,8 +184,8 @@ quiet_flush true n left last is own x =
     let puts = putting n (next_token left) w.put w.is_put in
     let r = at_end (Released n (next_token left)) in
     record {
-      same_versions = flush_version n left last (next_token left) w.put w.last_is puts;
-      others = λ d other. flush_other n left last (next_token left) w.put w.last_is puts d other w.is_put;
+      same_versions = flush_version 0 None n left last (next_token left) w.put w.last_is puts;
+      others = λ d other. flush_other 0 None n left last (next_token left) w.put w.last_is puts d other w.is_put;
       added = map at_end (acquired n left ∷ w.put ∷ Released n (next_token left) ∷ []);
       last_is = w.last_is;
       quiet = All-cons IsQuiet (at_end (acquired n left)) (at_end w.put ∷ r ∷ []) refl (All-cons IsQuiet (at_end w.put) (r ∷ []) (by w puts w.is_put) (All-cons IsQuiet r [] refl (All-nil IsQuiet)));
@@ -287,8 +194,8 @@ quiet_flush true n left last is own x =
     by : (w : IsWholeFlush at_end n left last) → IsPutting w.put → IsPut n (next_token left) w.put → IsQuiet (at_end w.put)
     by w puts (inl p) = ap (λ (act : Act). is_flush_failed_at_end (at_end act)) p.1
     by w puts (inr p) =
-        let same : kept n last ≡ kept n left = kept_then n left last (next_token left) w.put w.last_is puts n ∙ ap (λ (act : Act). kept_by n act (kept n left)) p.2 in
-        let there : kept n left ≡ Some (version n left) = sym same ∙ own ∙ ap (λ (k : ℕ). Some k) (flush_version n left last (next_token left) w.put w.last_is puts n) in
+        let same : kept n last ≡ kept n left = kept_then 0 None n left last (next_token left) w.put w.last_is puts n ∙ ap (λ (act : Act). kept_by n act (kept n left)) p.2 in
+        let there : kept n left ≡ Some (version n left) = sym same ∙ own ∙ ap (λ (k : ℕ). Some k) (flush_version 0 None n left last (next_token left) w.put w.last_is puts n) in
         absurd (never_behind (version n left) (kept n left) there is)
 
 abbrev pub AddsQuiet : List Entry → List Entry → Type 0
@@ -309,4 +216,4 @@ flush_makes_none (suc n) left last x = one (needs_flush n x.0) x.2 ∙ flush_mak
     one false e = ap makings e
     one true f =
         let w = whole_flush 0 None n (λ look. []) x.0 last f in
-        flush_makings n x.0 last (next_token x.0) w.put w.last_is (putting n (next_token x.0) w.put w.is_put)
+        flush_makings 0 None n x.0 last (next_token x.0) w.put w.last_is (putting n (next_token x.0) w.put w.is_put)

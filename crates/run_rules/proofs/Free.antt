@@ -1,6 +1,9 @@
 -- At the end of a run no lock keeps seat 0 out, and each drained update takes the first that waits.
-use Rattle.std.proofs.Common.{◌≡◌, ℕ, ◌+◌, ◌≤◌, ◌&&◌, List, [], ◌∷◌, ◌++◌, length, Bool, true, false, not, true≢false, refl, sym, ap, ◌∙◌, subst, inl, inr, arith, All}
+use Rattle.std.proofs.Common.{◌≡◌, ◌≢◌, ◌⊎◌, ℕ, ◌+◌, ◌≤◌, ◌&&◌, ◌||◌, List, [], ◌∷◌, ◌++◌, length, Bool, true, false, not, true≢false, refl, sym, ap, ◌∙◌, subst, inl, inr, arith, eqb, eq-eqb, append_assoc, All}
 use Rattle.std.specs.Prelude.{Option, Some, None, map, option_map, if◌then◌else◌}
+use Rattle.std.specs.List.{list_any}
+use Rattle.std.proofs.lemmas.Bool.Decides.{eqb_tells}
+use Rattle.std.proofs.lemmas.List.Folds.{list_any-append}
 use Rattle.std.proofs.lemmas.List.Elements.{All-nil, All-cons}
 use Rattle.expiring_lock.specs.declared.lock.TheConstants.{LOCK_LIFE}
 use Rattle.journal_entries.specs.declared.act.Act.{Act}
@@ -8,13 +11,16 @@ use Rattle.journal_entries.specs.declared.act.Act.TheVariants.{Acquired, Ticked,
 use Rattle.journal_entries.specs.declared.act.Entry.{Entry}
 use Rattle.journal_rules.specs.Keeping.{cached}
 use Rattle.journal_rules.specs.Legal.{IsLegal}
-use Rattle.journal_rules.specs.Locks.{Acquiring, acquired_by, clock, is_expired, is_held, is_held_in, last_acquiring, released}
+use Rattle.journal_rules.specs.Documents.{is_in}
+use Rattle.journal_rules.specs.Locks.{Acquiring, acquired_by, clock, is_expired, is_held, is_held_in, last_acquiring, next_token, released}
+use Rattle.journal_rules.proofs.Pushing.{last_acquiring-push, released-push}
 use Rattle.ending_rules.specs.Drained.{TakesFirst}
 use Rattle.ending_rules.proofs.Drained.{IsDrainedUpdate, IsFree, IsLoadUnder}
 use Rattle.ending_rules.proofs.Locks.{expire, free_stays, update_leaves}
 use Rattle.run_rules.specs.Counting.{is_taking}
 use Rattle.turn_rules.specs.Draining.{Caches, DrainsOne, IsLoad, IsWhole}
 use Rattle.run_rules.specs.Ending.{at_end}
+use Rattle.turn_rules.specs.Flushing.{IsPut}
 use Rattle.turn_rules.specs.Locking.{acquired, busy, busy_by}
 use Rattle.turn_rules.specs.Turns.{Alone, entry_by}
 use Rattle.run_rules.proofs.Whole.{maps, whole}
@@ -91,3 +97,55 @@ module _ (seat : ℕ) (line : Option ℕ) (doc : ℕ) where
       let es = map by (acquired doc left ∷ w.loading ++ Committed doc w.token w.ticket w.outcome ∷ Released doc w.token ∷ []) in
       let u = update_leaves doc left es (subst IsLegal w.last_is legal) (drained left last w) in
       subst (λ (j : List Entry). TakesFirst doc left j × ((d : ℕ) → busy d left ≡ None → busy d j ≡ None)) (sym w.last_is) (u.0, λ d none. not_busy d (left ++ es) (u.1 d (free_of d left none)))
+
+-- ---- a whole flush
+module _ (seat : ℕ) (line : Option ℕ) (doc : ℕ) (left last : List Entry) (put : Act) (is_put : IsPut doc (next_token left) put) (is : last ≡ left ++ map (entry_by seat line) (acquired doc left ∷ put ∷ Released doc (next_token left) ∷ [])) where
+  abbrev a : Entry
+  a = entry_by seat line (acquired doc left)
+
+  abbrev f : Entry
+  f = entry_by seat line put
+
+  abbrev r : Entry
+  r = entry_by seat line (Released doc (next_token left))
+
+  one_by_one : last ≡ ((left ++ a ∷ []) ++ f ∷ []) ++ r ∷ []
+  one_by_one = is ∙ sym (append_assoc left (a ∷ f ∷ []) (r ∷ [])) ∙ ap (λ (j : List Entry). j ++ r ∷ []) (sym (append_assoc left (a ∷ []) (f ∷ [])))
+
+  put_takes_not : is_taking put ≡ false
+  put_takes_not = by is_put
+    where
+      by : IsPut doc (next_token left) put → is_taking put ≡ false
+      by (inl x) = ap is_taking x.1
+      by (inr x) = ap is_taking x.2
+
+  others : (d : ℕ) → eqb doc d ≡ false → busy d left ≡ None → busy d last ≡ None
+  others d apart none =
+      let first = not_busy d (left ++ a ∷ []) (free_stays d left a (λ s now. ap (λ b. if b then Some (record { seat = s; doc = doc; token = next_token left; until = clock left + LOCK_LIFE }) else now) apart) (free_of d left none)) in
+      ap (busy d) one_by_one ∙ still_not_busy d ((left ++ a ∷ []) ++ f ∷ []) r refl (still_not_busy d (left ++ a ∷ []) f put_takes_not first)
+
+  abbrev taking : Acquiring
+  taking = record { seat = seat; doc = doc; token = next_token left; until = clock left + LOCK_LIFE }
+
+  last_is_own : last_acquiring doc last ≡ Some taking
+  last_is_own =
+      ap (last_acquiring doc) one_by_one ∙ last_acquiring-push doc ((left ++ a ∷ []) ++ f ∷ []) r ∙ last_acquiring-push doc (left ++ a ∷ []) f
+      ∙ takes_not put put_takes_not doc seat (last_acquiring doc (left ++ a ∷ [])) ∙ last_acquiring-push doc left a
+      ∙ ap (λ b. if b then Some taking else last_acquiring doc left) (eq-eqb doc doc refl)
+
+  own : busy doc last ≡ None
+  own = not_busy doc last (inl (ap (λ o. is_held_in o (released last)) last_is_own ∙ ap (λ ts. not (is_in (next_token left) ts)) (ap released one_by_one ∙ released-push ((left ++ a ∷ []) ++ f ∷ []) r) ∙ ap not (there (released ((left ++ a ∷ []) ++ f ∷ [])))))
+    where
+      there : (ts : List ℕ) → is_in (next_token left) (ts ++ next_token left ∷ []) ≡ true
+      there ts = list_any-append (λ y. eqb y (next_token left)) ts (next_token left ∷ []) ∙ ap (λ b. list_any (λ y. eqb y (next_token left)) ts || (b || false)) (eq-eqb (next_token left) (next_token left) refl) ∙ or_true (list_any (λ y. eqb y (next_token left)) ts)
+        where
+          or_true : (b : Bool) → (b || true) ≡ true
+          or_true true = refl
+          or_true false = refl
+
+  pub flush_frees : (d : ℕ) → busy d left ≡ None → busy d last ≡ None
+  flush_frees d none = by (eqb_tells doc d)
+    where
+      by : ((eqb doc d ≡ true) × (doc ≡ d)) ⊎ ((eqb doc d ≡ false) × (doc ≢ d)) → busy d last ≡ None
+      by (inl t) = subst (λ (n : ℕ). busy n last ≡ None) t.1 own
+      by (inr t) = others d t.0 none

@@ -10,8 +10,8 @@ use Rattle.journal_rules.specs.Legal.{IsLegal}
 use Rattle.session_lines.specs.declared.line.Line.{Line}
 use Rattle.run_rules.specs.Determined.{has_fault, ShareFaults}
 use Rattle.turn_rules.specs.Draining.{Done}
-use Rattle.run_rules.specs.Ending.{at_end, InOrder, DrainsDry, sending_acts, CatchesUpIf, CatchesUp, IsRound, Rounds, FlushesIf, FlushesAtEnd, EndsUnflushed, Ends}
-use Rattle.run_rules.specs.Follows.{Follows, FollowsUnflushed}
+use Rattle.run_rules.specs.Ending.{at_end, InOrder, DrainsDry, sending_acts, CatchesUpIf, CatchesUp, IsRound, Rounds, FlushesIf, FlushesAtEnd, Ends}
+use Rattle.run_rules.specs.Follows.{Follows}
 use Rattle.run_rules.specs.Keeping.{nothing_kept}
 use Rattle.run_rules.specs.Lines.{Leads, numbered}
 use Rattle.run_rules.specs.Plain.{needs_flush}
@@ -67,7 +67,7 @@ round_same sessions left a b p x y =
     let e = in_order_same DrainsDry dry_on drains_dry_same (length (makings left)) left x.0 y.0 (pair_before x.0 y.0 a b (in_order_on CatchesUp catches_on sessions x.0 a x.2) (in_order_on CatchesUp catches_on sessions y.0 b y.2) p) x.1 y.1 in
     in_order_same CatchesUp catches_on catches_same sessions x.0 a b p x.2 (subst (λ (j : List Entry). InOrder CatchesUp sessions j b) (sym e) y.2)
 
-rounds_on : (sessions most : ℕ) (left last : List Entry) → Rounds sessions most left last → Extends left last
+pub rounds_on : (sessions most : ℕ) (left last : List Entry) → Rounds sessions most left last → Extends left last
 rounds_on sessions zero left last x = extends_alone left last x
 rounds_on sessions (suc most) left last (inl x) = extends_alone left last x.1
 rounds_on sessions (suc most) left last (inr x) = extends_on left x.1.0 last (round_on sessions left x.1.0 x.1.1) (rounds_on sessions most x.1.0 last x.1.2)
@@ -100,13 +100,13 @@ flushes_at_end_same doc left a b p x y = flush_if_same (needs_flush doc left) do
 flushes_all_on : (mid last : List Entry) → InOrder FlushesAtEnd (length (makings mid)) mid last → Extends mid last
 flushes_all_on mid last x = in_order_on FlushesAtEnd flushes_at_end_on (length (makings mid)) mid last x
 
-unflushed_on : (sessions : ℕ) (left last : List Entry) → EndsUnflushed sessions left last → Extends left last
-unflushed_on sessions left last x =
+ticked_on : (sessions : ℕ) (left last : List Entry) → Rounds sessions 3 (left ++ at_end (Ticked LOCK_LIFE) ∷ []) last → Extends left last
+ticked_on sessions left last x =
     let tick = at_end (Ticked LOCK_LIFE) in
     extends_on left (left ++ tick ∷ []) last (tick ∷ [], refl) (rounds_on sessions 3 (left ++ tick ∷ []) last x)
 
 pub ends_on : (sessions : ℕ) (left last : List Entry) → Ends sessions left last → Extends left last
-ends_on sessions left last x = extends_on left x.0 last (unflushed_on sessions left x.0 x.1) (flushes_all_on x.0 last x.2)
+ends_on sessions left last x = extends_on left x.0 last (ticked_on sessions left x.0 x.1) (flushes_all_on x.0 last x.2)
 
 pub ends_same : (sessions : ℕ) (left a b : List Entry) → Pair a b → Ends sessions left a → Ends sessions left b → a ≡ b
 ends_same sessions left a b p x y =
@@ -116,24 +116,16 @@ ends_same sessions left a b p x y =
 
 -- ---- the whole journal
 module _ (lines : List Line) (sessions : ℕ) (one other : List Entry) where
-  module _ (Ends : ℕ → List Entry → List Entry → Type 0) (on : (left last : List Entry) → Ends sessions left last → Extends left last)
-      (same : (left a b : List Entry) → Pair a b → Ends sessions left a → Ends sessions left b → a ≡ b) where
-    -- however a run ends, where its end is determined by what was done before
-    one_by_ends : (a b : List Entry) → IsLegal one → IsLegal other → ShareFaults one other → Leads 0 Alone (numbered 1 lines) nothing_kept [] a → Leads 0 Alone (numbered 1 lines) nothing_kept [] b
-        → Ends sessions (a ++ entry_by 0 None (Closed 0) ∷ []) one → Ends sessions (b ++ entry_by 0 None (Closed 0) ∷ []) other → one ≡ other
-    one_by_ends a b legal legal2 shared leads leads2 ends ends2 =
-        let closed = entry_by 0 None (Closed 0) in
-        let ends_pair = pair_before (a ++ closed ∷ []) (b ++ closed ∷ []) one other (on (a ++ closed ∷ []) one ends) (on (b ++ closed ∷ []) other ends2) (legal, legal2, shared) in
-        let e = leads_same Alone alone_look extends_alone 0 (alone_unfailed 0) (numbered 1 lines) nothing_kept [] a b (pair_front a (closed ∷ []) b (closed ∷ []) ends_pair) leads leads2 in
-        same (a ++ closed ∷ []) one other (legal, legal2, shared) ends (subst (λ (j : List Entry). Ends sessions (j ++ closed ∷ []) other) (sym e) ends2)
+  one_by_ends : (a b : List Entry) → IsLegal one → IsLegal other → ShareFaults one other → Leads 0 Alone (numbered 1 lines) nothing_kept [] a → Leads 0 Alone (numbered 1 lines) nothing_kept [] b
+      → Ends sessions (a ++ entry_by 0 None (Closed 0) ∷ []) one → Ends sessions (b ++ entry_by 0 None (Closed 0) ∷ []) other → one ≡ other
+  one_by_ends a b legal legal2 shared leads leads2 ends ends2 =
+      let closed = entry_by 0 None (Closed 0) in
+      let ends_pair = pair_before (a ++ closed ∷ []) (b ++ closed ∷ []) one other (ends_on sessions (a ++ closed ∷ []) one ends) (ends_on sessions (b ++ closed ∷ []) other ends2) (legal, legal2, shared) in
+      let e = leads_same Alone alone_look extends_alone 0 (alone_unfailed 0) (numbered 1 lines) nothing_kept [] a b (pair_front a (closed ∷ []) b (closed ∷ []) ends_pair) leads leads2 in
+      ends_same sessions (a ++ closed ∷ []) one other (legal, legal2, shared) ends (subst (λ (j : List Entry). Ends sessions (j ++ closed ∷ []) other) (sym e) ends2)
 
   pub one_journal : IsLegal one → IsLegal other → ShareFaults one other → Follows lines sessions one → Follows lines sessions other → one ≡ other
-  one_journal legal legal2 shared f f2 = one_by_ends Ends (ends_on sessions) (ends_same sessions) f.done f2.done legal legal2 shared f.leads f2.leads f.ends f2.ends
+  one_journal legal legal2 shared f f2 = one_by_ends f.done f2.done legal legal2 shared f.leads f2.leads f.ends f2.ends
 
   pub one_journal_faultless : IsLegal one → IsLegal other → has_fault one ≡ false → has_fault other ≡ false → Follows lines sessions one → Follows lines sessions other → one ≡ other
   one_journal_faultless legal legal2 none none2 f f2 = one_journal legal legal2 (share_none one other none none2) f f2
-
-  pub one_journal_unflushed : IsLegal one → IsLegal other → has_fault one ≡ false → has_fault other ≡ false → FollowsUnflushed lines sessions one → FollowsUnflushed lines sessions other → one ≡ other
-  one_journal_unflushed legal legal2 none none2 f f2 =
-      one_by_ends EndsUnflushed (unflushed_on sessions) (λ left a b p x y. rounds_same sessions 3 (left ++ at_end (Ticked LOCK_LIFE) ∷ []) a b p x y)
-      f.done f2.done legal legal2 (share_none one other none none2) f.leads f2.leads f.ends f2.ends

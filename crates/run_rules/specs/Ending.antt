@@ -64,10 +64,6 @@ FlushesIf true doc left last = FlushesFrom at_end Alone (λ look. []) doc left l
 abbrev pub FlushesAtEnd : ℕ → List Entry → List Entry → Type 0
 FlushesAtEnd doc left last = FlushesIf (needs_flush doc left) doc left last
 
--- the clock goes on until every lock has expired, and there are at most three rounds
-abbrev pub EndsUnflushed : ℕ → List Entry → List Entry → Type 0
-EndsUnflushed sessions left last = Rounds sessions 3 (left ++ at_end (Ticked LOCK_LIFE) ∷ []) last
-
--- so a run ends; and then each document is flushed that needs it
+-- so a run ends: the clock goes on until every lock has expired, there are at most three rounds, and then each document is flushed that needs it
 abbrev pub Ends : ℕ → List Entry → List Entry → Type 0
-Ends sessions left last = (mid : List Entry) × EndsUnflushed sessions left mid × InOrder FlushesAtEnd (length (makings mid)) mid last
+Ends sessions left last = (mid : List Entry) × Rounds sessions 3 (left ++ at_end (Ticked LOCK_LIFE) ∷ []) mid × InOrder FlushesAtEnd (length (makings mid)) mid last

@@ -20,7 +20,7 @@ ghost use Rattle.run_rules.specs.Counting.{is_taking, takings};
 ghost use Rattle.turn_rules.specs.Draining.{Drains, DrainsOne, IsWhole, Stop};
 ghost use Rattle.run_rules.specs.Ending.{at_end, Rounds};
 ghost use Rattle.turn_rules.specs.Flushing.{FlushesFrom, IsWholeFlush};
-ghost use Rattle.run_rules.specs.Follows.{Follows, FollowsUnflushed};
+ghost use Rattle.run_rules.specs.Follows.{Follows};
 ghost use Rattle.run_rules.specs.Threads.{Crew, FollowsTogether};
 ghost use Rattle.run_rules.specs.Keeping.{nothing_kept, Preparations};
 ghost use Rattle.run_rules.specs.Lines.{Leads, numbered};
@@ -114,15 +114,4 @@ pub fn journal_of_script_and_faults()
 /// where that is determined by the journal as the seat left it, so is the whole.
 pub fn lines_among_others()
     ensures { (seat : ℕ) (answers : List Entry → List Entry) → AreByOthers seat answers → (lines : List (ℕ × Line)) (kept : Preparations) (left one other : List Entry) → IsLegal one → IsLegal other → ShareFaults one other → Leads seat (Answered answers) lines kept left one → Leads seat (Answered answers) lines kept left other → one ≡ other }
-{}
-
-/// Where nothing is flushed at the end, a legal journal that follows a script on one thread is
-/// complete all the same.
-pub fn unflushed_has_ended()
-    ensures { (lines : List Line) (sessions : ℕ) (journal : List Entry) → IsLegal journal → AreBySessions sessions lines → FollowsUnflushed lines sessions journal → HasEnded journal }
-{}
-
-/// And such a journal is a function of the script too.
-pub fn journal_of_script_unflushed()
-    ensures { (lines : List Line) (sessions : ℕ) (one other : List Entry) → IsLegal one → IsLegal other → has_fault one ≡ false → has_fault other ≡ false → FollowsUnflushed lines sessions one → FollowsUnflushed lines sessions other → one ≡ other }
 {}

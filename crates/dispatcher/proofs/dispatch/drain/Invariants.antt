@@ -1,6 +1,7 @@
 use Rattle.std.proofs.Common.{◌≡◌, ◌≤◌, ◌-◌}
 use Rattle.journal_rules.specs.Documents.{IsMade}
 use Rattle.turn_rules.specs.Turns.{entry_by}
+use Rattle.book.specs.Going.{with_journal}
 use Rattle.dispatcher.specs.Draining.{DrainsMany}
 use Rattle.dispatcher.proofs.dispatch.drain.Given as goal
 
@@ -10,7 +11,7 @@ invariant-draining g l = record {
   many : DrainsMany (entry_by l.initial.by.seat l.initial.by.line) l.initial.doc l.count l.initial.book.journal l.book.journal;
   made : IsMade l.initial.doc l.book.journal;
   few : l.count ≤ l.initial.most;
-  drivers : l.book.drivers ≡ l.initial.book.drivers;
+  rest : l.book ≡ with_journal l.initial.book l.book.journal;
 }
 
 abbrev pub decreases-draining : goal.decreases-draining
