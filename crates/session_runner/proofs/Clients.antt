@@ -9,7 +9,7 @@ use Rattle.journal_rules.specs.Client.{Client, away, client, client_by, is_of, j
 use Rattle.journal_rules.specs.Mail.{mail}
 use Rattle.journal_rules.proofs.Pushing.{client-none, client-push}
 use Rattle.book.specs.Roomed.{IsClientAfter, IsClientOf}
-use Rattle.book.proofs.Lists.{same_item, set_elsewhere, set_here}
+use Rattle.project_histories.proofs.Lists.{same_item, set_elsewhere, set_here}
 use Rattle.share_client.specs.Clients.{Numbered}
 use Rattle.book.specs.Shown.{Shown, adds}
 use Rattle.turn_rules.specs.Turns.{entry_by}

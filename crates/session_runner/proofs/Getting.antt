@@ -9,6 +9,7 @@ use Rattle.journal_rules.specs.Mail.{mail}
 use Rattle.ending_rules.proofs.Refusals.{got_mail}
 use Rattle.turn_rules.specs.Turns.{Alone, entry_by}
 use Rattle.run_rules.specs.Lines.{Gets}
+use Rattle.book.specs.Going.{with_journal}
 use Rattle.book.specs.Shown.{Shown, adds}
 use Rattle.share_client.specs.Clients.{Numbered}
 use Rattle.session_runner.specs.Clients.{GoesQuietly}
@@ -60,8 +61,8 @@ module _ (seat : ℕ) (line : Option ℕ) (was now : Numbered) (left last : Show
   pub gets_quietly : GoesQuietly was.client left.journal last.journal
   gets_quietly = quiet_one was.client left.journal last.journal its one_more (record { own = refl; quiet = refl; its = eq-eqb was.client was.client refl })
 
-  pub gets_alone : last.drivers ≡ left.drivers
-  gets_alone = ap (λ (b : Shown). b.drivers) (some_of (λ msg. last ≡ adds left seat line (Got now.client (brief_of msg) ∷ [])) o m is got)
+  pub gets_rest : last ≡ with_journal left last.journal
+  gets_rest = let one = some_of (λ msg. last ≡ adds left seat line (Got now.client (brief_of msg) ∷ [])) o m is got in one ∙ ap (λ (b : Shown). with_journal left b.journal) (sym one)
 
 -- and none more
 pub not_there : {A : Type 0} (o : Option A) → is_some o ≡ false → o ≡ None

@@ -10,6 +10,7 @@ pub mod Quiet
 pub mod Getting
 pub mod Owning
 pub mod Lines
+pub mod Resting
 pub mod Flushes
 pub mod Finishing
 pub mod Fitting

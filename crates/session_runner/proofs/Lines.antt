@@ -1,5 +1,5 @@
 -- What the lines that were done leave.
-use Rattle.std.proofs.Common.{◌≡◌, ◌≢◌, ◌⊎◌, ℕ, zero, suc, ◌+◌, ◌-◌, ◌≤◌, ◌<◌, List, [], ◌∷◌, ◌++◌, length, Bool, true, false, true≢false, ◌||◌, ◌&&◌, not, refl, sym, ap, ◌∙◌, subst, inl, inr, arith, append-nil, All}
+use Rattle.std.proofs.Common.{◌≡◌, ◌≢◌, ◌⊎◌, ℕ, zero, suc, ◌+◌, ◌-◌, ◌≤◌, ◌<◌, List, [], ◌∷◌, ◌++◌, length, Bool, true, false, true≢false, ◌||◌, ◌&&◌, not, refl, sym, ap, ◌∙◌, subst, inl, inr, arith, append-nil, append_assoc, All}
 use Rattle.std.specs.Prelude.{Option, Some, None, Result, Ok, Err, OnOk, IfOk, ◌==◌, is_some, map, slice_get, option_and_then, position, cond, nat_lt, if◌then◌else◌}
 use Rattle.std.specs.List.{list_all, list_any, position_or_len}
 use Rattle.std.proofs.lemmas.Bool.{le-ltb}
@@ -30,7 +30,9 @@ use Rattle.book.specs.Calls.{raw_act, raw_act_of}
 use Rattle.book.specs.Shown.{Shown, adds}
 use Rattle.book.specs.declared.faults.Prepared.{Prepared}
 use Rattle.book.specs.declared.faults.RawUpdate.{RawUpdate}
-use Rattle.book.proofs.Locking.{at_within}
+use Rattle.book.proofs.Going.{goes_rest}
+use Rattle.book.specs.Going.{GoesOn, with_journal}
+use Rattle.project_histories.proofs.Lists.{at_within}
 use Rattle.session_runner.specs.declared.driver.Driver.{Driver}
 use Rattle.session_runner.specs.Apart.{GoesApart, IsApart, IsBehind, is_apart}
 use Rattle.session_runner.specs.Clients.{AreClientsOf, GoesQuietly, is_of_none}
@@ -244,3 +246,8 @@ synced_behind line from session left last none still g =
       clock_is = let same : clock last ≡ clock left + moved_by line = omega (arith, a, q, still) in same;
       closed_is = quiet_closed session g.mid last g.quiet ∙ same_closed from left g.mid g.apart;
     }
+
+-- ---- how the book goes on
+pub goes_synced : {tells : Bool} (left last : Shown) (from session : ℕ) → last ≡ with_journal left last.journal → GoesApartThenQuietly from session left.journal last.journal → GoesOn tells left last
+goes_synced left last from session rest g =
+    goes_rest left last (g.apart.more ++ g.quiet.more) rest (g.quiet.last_is ∙ ap (λ (j : List Entry). j ++ g.quiet.more) g.apart.last_is ∙ append_assoc left.journal g.apart.more g.quiet.more)

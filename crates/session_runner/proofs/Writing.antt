@@ -1,6 +1,7 @@
 -- The lines of a report, cut where the writing stands.
-use Rattle.std.proofs.Common.{◌≡◌, ◌⊎◌, ℕ, zero, suc, ◌+◌, ◌<◌, ◌≤◌, List, [], ◌∷◌, ◌++◌, length, take, drop, get_or, sym, ap, ap₂, ◌∙◌, subst, arith, append-nil, append_assoc, inl, inr}
-use Rattle.std.specs.Prelude.{Option, None, Some, unwrap_or}
+use Rattle.std.proofs.Common.{◌≡◌, ◌⊎◌, ℕ, zero, suc, ◌+◌, ◌<◌, ◌≤◌, List, [], ◌∷◌, ◌++◌, length, take, drop, get_or, refl, sym, ap, ap₂, ◌∙◌, subst, arith, append-nil, append_assoc, inl, inr}
+use Rattle.std.specs.Prelude.{slice_get, Option, None, Some, unwrap_or}
+use Rattle.std.proofs.lemmas.Option.{get_or_from_slice_get, slice_get_within}
 use Rattle.std.proofs.lemmas.Bool.{cases_lt}
 use Rattle.std.proofs.lemmas.List.{take_more, take-append-drop, length-take-le}
 use Rattle.json_lines.specs.Object.{line_of}
@@ -15,7 +16,7 @@ use Rattle.report_text.specs.Documents.{document_members}
 use Rattle.report_text.specs.Entries.{entry_members}
 use Rattle.ranges_tracker.specs.declared.change.Change.{Change}
 use Rattle.ranges_tracker.specs.declared.comment.Comment.{Comment}
-use Rattle.run_rules.specs.Report.{client_line, client_lines}
+use Rattle.run_rules.specs.Report.{client_line, client_lines, project_line, project_lines_of}
 use Rattle.session_runner.specs.Report.{document_end, document_line, document_lines, entry_lines}
 
 -- what is a part of a front is a part of the whole
@@ -99,3 +100,17 @@ clients_more names j k n lt is =
 
 pub clients_cut : (names : List (List ℕ)) (j : List Entry) (k : ℕ) → client_lines 0 (take k names) j ++ client_lines (0 + length (take k names)) (drop k names) j ≡ client_lines 0 names j
 clients_cut names j k = sym (client_lines-append 0 (take k names) (drop k names) j) ∙ ap (λ l. client_lines 0 l j) (take-append-drop k names)
+
+-- ---- the lines of projects
+project_lines-append : (xs ys : List (List ℕ)) (j : List Entry) → project_lines_of (xs ++ ys) j ≡ project_lines_of xs j ++ project_lines_of ys j
+project_lines-append [] ys j = refl
+project_lines-append (x ∷ xs) ys j = ap (λ l. project_line x j ++ l) (project_lines-append xs ys j) ∙ sym (append_assoc (project_line x j) (project_lines_of xs j) (project_lines_of ys j))
+
+pub projects_more : (ps : List (List ℕ)) (j : List Entry) (k : ℕ) (p : List ℕ) → slice_get ps k ≡ Some p → project_lines_of (take (k + 1) ps) j ≡ project_lines_of (take k ps) j ++ project_line p j
+projects_more ps j k p at =
+    ap (λ l. project_lines_of l j) (take_more ps k [] (slice_get_within ps k p at) ∙ ap (λ x. take k ps ++ x ∷ []) (get_or_from_slice_get ps k p [] at))
+    ∙ project_lines-append (take k ps) (p ∷ []) j
+    ∙ ap (λ l. project_lines_of (take k ps) j ++ l) (append-nil (project_line p j))
+
+pub projects_cut : (ps : List (List ℕ)) (j : List Entry) (k : ℕ) → project_lines_of (take k ps) j ++ project_lines_of (drop k ps) j ≡ project_lines_of ps j
+projects_cut ps j k = sym (project_lines-append (take k ps) (drop k ps) j) ∙ ap (λ l. project_lines_of l j) (take-append-drop k ps)

@@ -1,5 +1,5 @@
 -- How a run ends before anything is written, and what it then writes.
-use Rattle.std.specs.Prelude.{◌≡◌, ◌⊎◌, ℕ, ◌^◌, ◌+◌, ◌<◌, ◌≤◌, List, [], ◌∷◌, ◌++◌, length, take, map, codes, position, not, Option, Some, None, option_map, Result, Ok, Err, String, string_bytes, ⊤}
+use Rattle.std.specs.Prelude.{◌≡◌, ◌⊎◌, ℕ, ◌^◌, ◌+◌, ◌<◌, ◌≤◌, Bool, true, false, IsTrue, List, [], ◌∷◌, ◌++◌, length, take, map, codes, position, not, Option, Some, None, option_map, Result, Ok, Err, String, string_bytes, ⊤}
 use Rattle.std.specs.Fmt.{decimal}
 use Rattle.std.specs.declared.alloc.Global.{Global}
 use Rattle.std.specs.Io.KnownBytes.{Consumes, Appends, Keeps, IsAtEnd}
@@ -12,13 +12,21 @@ use Rattle.session_lines.specs.declared.fault.ScriptFault.{ScriptFault}
 use Rattle.session_lines.specs.declared.fault.ScriptFault.TheVariants as read
 use Rattle.session_lines.specs.Script.{script_of}
 use Rattle.ending_rules.specs.Ended.{HasEnded}
-use Rattle.run_rules.specs.Follows.{FollowsUnflushed}
+use Rattle.run_rules.specs.Completing.{AreKept, has_flush_failed_at_end}
+use Rattle.run_rules.specs.Follows.{Follows}
 use Rattle.session_runner.specs.declared.ending.Ending.{Ending}
 use Rattle.session_runner.specs.declared.ending.Ending.TheVariants as ending
 use Rattle.session_runner.specs.declared.ending.LineFault.{LineFault}
 use Rattle.session_runner.specs.declared.ending.LineFault.TheVariants.{Json, Form, Unknown, Unbuilt}
 use Rattle.session_runner.specs.Fitting.{is_built}
-use Rattle.session_runner.specs.Passing.{MayFail, Passed}
+use Rattle.session_runner.specs.Holding.{empty_book}
+use Rattle.ranges_tracker.specs.Kept.{Kept}
+use Rattle.source_sink.specs.Causes.{Rose}
+use Rattle.book.specs.Failing.{has_failure}
+use Rattle.book.specs.Going.{GoesOn, KeepsOthers}
+use Rattle.book.specs.Shown.{Shown}
+use Rattle.book.specs.Stored.{AreStored}
+use Rattle.session_runner.specs.Passing.{MayFail, Passed, PassedKeeper}
 use Rattle.session_runner.specs.Report.{names_of, report_of}
 use Rattle.session_runner.specs.Clients.{AreClientsOf}
 use Rattle.session_runner.specs.declared.ending.Run.{Run}
@@ -66,8 +74,14 @@ pub record IsRun (bytes : List ℕ) (journal : List Entry) : Type 0 where
   pub read : script_of bytes ≡ Ok script
   pub no_fault : line_fault bytes ≡ None
   pub legal : IsLegal journal
-  pub follows : FollowsUnflushed script.lines script.sessions journal
+  pub follows : Follows script.lines script.sessions journal
   pub ended : HasEnded journal
+
+-- where its type tells its documents, a keeper has each that was flushed as it was at the version of its last flush, and under all other names what it had; and where the journal tells that it failed, it did
+pub record IsKeptIn (keeper : PassedKeeper) (journal : List Entry) : Type 0 where
+  pub stored : IsTrue keeper.tells → AreStored keeper.after journal
+  pub others : KeepsOthers keeper.tells journal keeper.before keeper.after
+  pub causes : has_failure journal ≡ true → Rose keeper.faults keeper.faults_now
 
 -- a fault that names a line, as it is written
 abbrev pub line_text : ℕ → List ℕ → List ℕ
@@ -100,6 +114,31 @@ EndsAs bytes (ending.Memory keeper) = ⊤
 EndsAs bytes (ending.Script fault keeper) = line_fault bytes ≡ Some fault
 EndsAs bytes (ending.Done run) = IsRun bytes run.book.journal × IsReady bytes run
 
+-- the keeper that was handed in, as an ending has it: that same one where no line was done; and behind a run the book's, which went on from an empty one
+abbrev pub HasKeeper : {K : Type 0} → Bool → (K → List (List ℕ × Kept)) → (K → ℕ) → K → Ending K → Type 0
+HasKeeper tells documents count given (ending.Words keeper) = keeper ≡ given
+HasKeeper tells documents count given (ending.Read keeper) = keeper ≡ given
+HasKeeper tells documents count given (ending.Long keeper) = keeper ≡ given
+HasKeeper tells documents count given (ending.Memory keeper) = ⊤
+HasKeeper tells documents count given (ending.Script fault keeper) = keeper ≡ given
+HasKeeper tells documents count given (ending.Done run) = GoesOn tells (empty_book (documents given) (count given)) run.book
+
+-- the keeper that a book gives back
+pub record IsOfBook {K : Type 0} (tells : Bool) (documents : K → List (List ℕ × Kept)) (count : K → ℕ) (book : Shown) (keeper : K) : Type 0 where
+  pub documents_are : documents keeper ≡ book.documents
+  pub later : book.start ≤ count keeper
+  pub stored : IsTrue tells → AreStored (documents keeper) book.journal
+  pub causes : has_failure book.journal ≡ true → Rose book.start (count keeper)
+
+-- the keeper that an ending gives back
+abbrev pub GivesBack : {K : Type 0} → Bool → (K → List (List ℕ × Kept)) → (K → ℕ) → Ending K → K → Type 0
+GivesBack tells documents count (ending.Words keeper) back = back ≡ keeper
+GivesBack tells documents count (ending.Read keeper) back = back ≡ keeper
+GivesBack tells documents count (ending.Long keeper) back = back ≡ keeper
+GivesBack tells documents count (ending.Memory keeper) back = back ≡ keeper
+GivesBack tells documents count (ending.Script fault keeper) back = back ≡ keeper
+GivesBack tells documents count (ending.Done run) back = IsOfBook tells documents count run.book back
+
 -- why a run ends so. Where memory was wanting no more than the limit was taken
 abbrev pub Explains : {K : Type 0} → List (String Global) → Passed → Ending K → Type 0
 Explains words input (ending.Words keeper) = (¬ AreRun words) × Keeps input.before input.after
@@ -109,13 +148,18 @@ Explains words input (ending.Memory keeper) = AreRun words × ((bytes : List ℕ
 Explains words input (ending.Script fault keeper) = AreRun words × ((bytes : List ℕ) × WasWhole input bytes × (line_fault bytes ≡ Some fault))
 Explains words input (ending.Done run) = AreRun words × ((bytes : List ℕ) × WasWhole input bytes × IsRun bytes run.book.journal × IsReady bytes run)
 
+-- 7 where a flush at the end of the run failed
+abbrev pub status_by : Bool → ℕ
+status_by true = 7
+status_by false = 0
+
 abbrev pub status_of : {K : Type 0} → Ending K → ℕ
 status_of (ending.Words keeper) = 2
 status_of (ending.Read keeper) = 5
 status_of (ending.Long keeper) = 8
 status_of (ending.Memory keeper) = 4
 status_of (ending.Script fault keeper) = 3
-status_of (ending.Done run) = 0
+status_of (ending.Done run) = status_by (has_flush_failed_at_end run.book.journal)
 
 abbrev pub text_of : {K : Type 0} → Ending K → List ℕ
 text_of (ending.Words keeper) = codes "fault: words\n"

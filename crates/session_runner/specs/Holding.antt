@@ -1,11 +1,13 @@
 -- What sessions keep from a `hold` to their next `finish`.
-use Rattle.std.specs.Prelude.{◌≡◌, ◌≢◌, ℕ, ◌≤◌, true, List, length, slice_get, Option, Some, None, option_and_then, option_map}
+use Rattle.std.specs.Prelude.{◌≡◌, ◌≢◌, ℕ, ◌≤◌, true, List, [], length, slice_get, Option, Some, None, option_and_then, option_map}
 use Rattle.journal_entries.specs.declared.act.Entry.{Entry}
 use Rattle.journal_rules.specs.Documents.{IsMade, update_at}
 use Rattle.journal_rules.specs.Keeping.{cached}
 use Rattle.journal_rules.specs.Locks.{Acquiring, acquirings, last_acquiring}
 use Rattle.book.specs.declared.faults.Prepared.{Prepared}
 use Rattle.book.specs.Looking.{IsDecided, IsOf}
+use Rattle.book.specs.Shown.{Shown}
+use Rattle.ranges_tracker.specs.Kept.{Kept}
 use Rattle.session_runner.specs.declared.driver.Driver.{Driver}
 use Rattle.run_rules.specs.Keeping.{Preparation, Preparations}
 use Rattle.session_runner.specs.Clients.{AreClientsOf}
@@ -38,6 +40,10 @@ pub record Stands (journal : List Entry) (p : Prepared) : Type 0 where
 pub record AreHeld (holds : List (Option Prepared)) (journal : List Entry) : Type 0 where
   pub stands : (session : ℕ) (p : Prepared) → slice_get holds session ≡ Some (Some p) → Stands journal p
   pub apart : (one other : ℕ) (p q : Prepared) → one ≢ other → slice_get holds one ≡ Some (Some p) → slice_get holds other ≡ Some (Some q) → p.look.token ≢ q.look.token
+
+-- a book of one driver, before its first entry, over a keeper that has these documents and this count of faults
+abbrev pub empty_book : List (List ℕ × Kept) → ℕ → Shown
+empty_book documents count = record { journal = []; drivers = 0; documents = documents; faults = count; start = count }
 
 -- a driver's book has no other drivers, what sessions keep stands, and each session has its client
 pub record IsDriver {K : Type 0} (driver : Driver K) : Type 0 where

@@ -1,4 +1,4 @@
--- What is written of a journal: a line for each entry, then a line for each document, and then one for each client that ever joined.
+-- What is written of a journal: a line for each entry, then a line for each document, then one for each client that ever joined, and then one for each project.
 use Rattle.std.specs.Prelude.{ℕ, ◌+◌, zero, suc, List, [], ◌∷◌, ◌++◌, length, None, Result, Ok, Err, unwrap_or}
 use Rattle.json_lines.specs.Object.{line_of}
 use Rattle.ranges_tracker.specs.Shown.{shown}
@@ -9,7 +9,7 @@ use Rattle.journal_entries.specs.declared.act.Entry.{Entry}
 use Rattle.journal_rules.specs.Documents.{makings, name, text, version}
 use Rattle.journal_rules.specs.Keeping.{kept}
 use Rattle.journal_rules.specs.Tracking.{cells}
-use Rattle.run_rules.specs.Report.{client_lines}
+use Rattle.run_rules.specs.Report.{client_lines, project_lines}
 use Rattle.session_lines.specs.declared.script.Script.{Script}
 use Rattle.session_lines.specs.declared.fault.ScriptFault.{ScriptFault}
 use Rattle.session_lines.specs.Script.{script_of}
@@ -34,7 +34,7 @@ document_lines (suc doc) journal = document_lines doc journal ++ document_line d
 
 -- the report of a journal of sessions with these names
 abbrev pub report_of : List (List ℕ) → List Entry → List ℕ
-report_of names journal = entry_lines 0 journal ++ (document_lines (length (makings journal)) journal ++ client_lines 0 names journal)
+report_of names journal = entry_lines 0 journal ++ (document_lines (length (makings journal)) journal ++ (client_lines 0 names journal ++ project_lines journal))
 
 -- the names of the sessions of an input
 abbrev pub names_in : Result Script ScriptFault → List (List ℕ)

@@ -1,5 +1,5 @@
-//! The end of a run: the driver closes, every lock expires, all that waits is drained, and the clients
-//! catch up.
+//! The end of a run: the driver closes, every lock expires, all that waits is drained, the clients catch
+//! up, and each document that needs it is put into the keeper.
 
 ghost use Rattle.std.specs.Prelude.{◌≡◌, ◌+◌, ◌≤◌, ◌++◌, ◌∷◌, [], ℕ, length, map, OnOk, IfErr, Some, None};
 ghost use Rattle.expiring_lock.specs.declared.lock.TheConstants.{LOCK_LIFE};
@@ -11,8 +11,9 @@ ghost use Rattle.ending_rules.specs.Rounds.{any_below, has_any, is_unfinished as
 ghost use Rattle.turn_rules.specs.Clients.{is_joined as is_joined_lem};
 ghost use Rattle.turn_rules.specs.Locking.{busy};
 ghost use Rattle.turn_rules.specs.Turns.{entry_by};
-ghost use Rattle.run_rules.specs.Ending.{CatchesUp, DrainsDry, EndsUnflushed, InOrder, Rounds, at_end, sending_acts};
+ghost use Rattle.run_rules.specs.Ending.{CatchesUp, DrainsDry, Ends, FlushesAtEnd, InOrder, Rounds, at_end, sending_acts};
 ghost use Rattle.share_client.specs.Clients.{told_send};
+ghost use Rattle.book.specs.Going.{GoesOn, with_journal};
 ghost use Rattle.book.specs.Roomed.{IsClientAfter, IsClientOf};
 ghost use Rattle.session_runner.specs.Clients.{AreClientsOf, GoesQuietly, StayAll};
 
@@ -21,6 +22,7 @@ use crate::mail::receive_all;
 use book::{Book, By};
 use dispatcher::{DrainEnd, drain};
 use expiring_lock::LOCK_LIFE;
+use flush_manager::{FlushEnd, flush_all};
 use journal_rules::ClientState;
 use keeper::Keeper;
 use share_client::{SendFault, ShareClient};
@@ -46,14 +48,16 @@ pub(crate) fn end_run<K: Keeper>(
     requires closed { closed book.old.journal ≡ [] }
     requires clients { AreClientsOf clients.old.items book.old.journal }
     requires low { clock book.old.journal + LOCK_LIFE ≤ clock_end }
-    ensures ends { OnOk result (EndsUnflushed (length clients.old.items) (book.old.journal ++ entry_by 0 None (Closed 0) ∷ []) book.new.journal) }
+    ensures ends { OnOk result (Ends (length clients.old.items) (book.old.journal ++ entry_by 0 None (Closed 0) ∷ []) book.new.journal) }
     ensures clients { OnOk result (AreClientsOf clients.new.items book.new.journal) }
     ensures sessions { OnOk result (length clients.new.items ≡ length clients.old.items) }
+    ensures goes_on { OnOk result (GoesOn K.tells book.old book.new) }
 {
     book.close_driver(AT_END, 0);
     tick(book, AT_END, LOCK_LIFE)?;
     book.legal();
-    go_rounds(alloc, book, clients)
+    go_rounds(alloc, book, clients)?;
+    flush_needed(alloc, book)
 }
 
 // Goes at most three rounds, as long as one is needed.
@@ -65,8 +69,10 @@ fn go_rounds<K: Keeper>(
     requires free { (doc : ℕ) → busy doc book.old.journal ≡ None }
     requires clients { AreClientsOf clients.old.items book.old.journal }
     ensures rounds { OnOk result (Rounds (length clients.old.items) 3 book.old.journal book.new.journal) }
+    ensures free { OnOk result ((doc : ℕ) → busy doc book.new.journal ≡ None) }
     ensures clients { OnOk result (AreClientsOf clients.new.items book.new.journal) }
     ensures sessions { OnOk result (length clients.new.items ≡ length clients.old.items) }
+    ensures rest { OnOk result (book.new ≡ with_journal book.old book.new.journal) }
 {
     let mut left = MAX_ROUNDS;
     'rounds: while left > 0 {
@@ -137,6 +143,7 @@ fn drain_all<K: Keeper>(alloc: Global, book: &mut Book<K>) -> Result<(), AllocEr
     ensures drains { OnOk result (InOrder DrainsDry (length (makings book.old.journal)) book.old.journal book.new.journal) }
     ensures free { OnOk result ((doc : ℕ) → busy doc book.new.journal ≡ None) }
     ensures stay { OnOk result (StayAll book.old.journal book.new.journal) }
+    ensures rest { OnOk result (book.new ≡ with_journal book.old book.new.journal) }
 {
     let docs = book.docs();
     for doc in 0..docs {
@@ -153,6 +160,7 @@ fn drain_dry<K: Keeper>(alloc: Global, book: &mut Book<K>, doc: u32) -> Result<(
     ensures free { OnOk result ((doc : ℕ) → busy doc book.new.journal ≡ None) }
     ensures stay { OnOk result (StayAll book.old.journal book.new.journal) }
     ensures makings { OnOk result (makings book.new.journal ≡ makings book.old.journal) }
+    ensures rest { OnOk result (book.new ≡ with_journal book.old book.new.journal) }
 {
     let most = book.waiting(doc);
     let end = drain(alloc, book, AT_END, doc, most);
@@ -175,6 +183,7 @@ fn catch_up_all<K: Keeper>(
     ensures free { OnOk result ((doc : ℕ) → busy doc book.new.journal ≡ None) }
     ensures clients { OnOk result (AreClientsOf clients.new.items book.new.journal) }
     ensures sessions { OnOk result (length clients.new.items ≡ length clients.old.items) }
+    ensures rest { OnOk result (book.new ≡ with_journal book.old book.new.journal) }
 {
     for client in clients.iter_mut() {
         catch_up(book, client)?;
@@ -188,6 +197,7 @@ fn catch_up<K: Keeper>(book: &mut Book<K>, client: &mut ShareClient) -> Result<(
     ensures catches { OnOk result (CatchesUp client.old.client book.old.journal book.new.journal) }
     ensures client { OnOk result (IsClientAfter book.new.journal client.old client.new) }
     ensures quiet { OnOk result (GoesQuietly client.old.client book.old.journal book.new.journal) }
+    ensures rest { OnOk result (book.new ≡ with_journal book.old book.new.journal) }
 {
     if !is_joined(client) {
         return Ok(());
@@ -202,6 +212,7 @@ fn send_own<K: Keeper>(book: &mut Book<K>, client: &mut ShareClient) -> Result<(
     requires { IsClientOf book.old.journal client.old }
     ensures sends { OnOk result (book.new.journal ≡ book.old.journal ++ map at_end (sending_acts client.old.client book.old.journal)) }
     ensures client { IsClientAfter book.new.journal client.old client.new }
+    ensures rest { OnOk result (book.new ≡ with_journal book.old book.new.journal) }
 {
     if client.flight().is_some() {
         return unless_memory(book.resend(AT_END, client));
@@ -217,5 +228,23 @@ fn unless_memory(sent: Result<u64, SendFault>) -> Result<(), AllocError>
         Ok(_) => Ok(()),
         Err(SendFault::NotJoined | SendFault::InFlight | SendFault::Nothing) => Ok(()),
         Err(SendFault::Memory) => Err(AllocError),
+    }
+}
+
+// Puts each document into the keeper whose version isn't there. That the keeper fails is noted, and no
+// error.
+fn flush_needed<K: Keeper>(alloc: Global, book: &mut Book<K>) -> Result<(), AllocError>
+    requires free { (doc : ℕ) → busy doc book.old.journal ≡ None }
+    ensures flushes { OnOk result (InOrder FlushesAtEnd (length (makings book.old.journal)) book.old.journal book.new.journal) }
+    ensures stay { OnOk result (StayAll book.old.journal book.new.journal) }
+    ensures goes_on { OnOk result (GoesOn K.tells book.old book.new) }
+{
+    let end = flush_all(alloc, book, AT_END);
+    book.legal();
+    match end {
+        FlushEnd::Done => Ok(()),
+        FlushEnd::Refused(_) => Ok(()),
+        FlushEnd::Failed { .. } => Ok(()),
+        FlushEnd::Memory => Err(AllocError),
     }
 }

@@ -2,6 +2,7 @@
 
 ghost use Rattle.std.specs.Prelude.{◌≡◌, ◌+◌, ◌<◌, ◌≤◌, ◌^◌, ◌-◌, ◌∷◌, [], ℕ, true, length, slice_get, slice_set, sum_by, IfOk, OnOk, None, Some, Option, is_some, All};
 ghost use Rattle.book.specs.Calls.{raw_act};
+ghost use Rattle.book.specs.Going.{GoesOn, with_journal};
 ghost use Rattle.book.specs.Shown.{adds};
 ghost use Rattle.book.specs.declared.faults.Prepared.{Prepared};
 ghost use Rattle.journal_entries.specs.declared.act.Act.TheVariants.{Made, Ticked};
@@ -22,7 +23,7 @@ ghost use Rattle.client_lines.specs.Lines.{IsDoable, client_act};
 ghost use Rattle.journal_rules.specs.Client.{away as away_lem};
 ghost use Rattle.std.specs.Global.{Vec};
 ghost use Rattle.session_runner.specs.Fitting.{AreBuilt, AreFit, IsFit, is_built};
-ghost use Rattle.session_runner.specs.Holding.{IsDriver, kept_in};
+ghost use Rattle.session_runner.specs.Holding.{IsDriver, empty_book, kept_in};
 
 use crate::syncing::sync_client;
 use book::{
@@ -69,7 +70,7 @@ pub(crate) fn do_lines<K: Keeper>(
     requires slow { sum_by moved_by lines.items ≤ clock_end }
     requires few { length lines.items < 2 ^ 32 - 1 }
     ensures leads { IfOk result (λ left. Leads 0 Alone (numbered 1 lines.items) nothing_kept [] left.book.journal) }
-    ensures drivers { IfOk result (λ left. left.book.drivers ≡ 0) }
+    ensures goes_on { IfOk result (λ left. GoesOn K.tells (empty_book (K.documents keeper) (K.count keeper)) left.book) }
     ensures clock { IfOk result (λ left. clock left.book.journal ≡ sum_by moved_by lines.items) }
     ensures closed { IfOk result (λ left. closed left.book.journal ≡ []) }
     ensures clients { IfOk result (λ left. AreClientsOf left.clients.items left.book.journal) }
@@ -91,7 +92,7 @@ impl<K: Keeper> Driver<K> {
     // The driver of an empty book over a keeper, of so many sessions that keep nothing. Where memory is
     // wanting the keeper is given back.
     fn new(alloc: Global, keeper: K, sessions: u32) -> Result<Driver<K>, K>
-        ensures book { IfOk result (λ driver. driver.book ≡ record { journal = []; drivers = 0; documents = K.documents keeper; faults = K.count keeper; start = K.count keeper }) }
+        ensures book { IfOk result (λ driver. driver.book ≡ empty_book (K.documents keeper) (K.count keeper)) }
         ensures sessions { IfOk result (λ driver. length driver.holds.items ≡ sessions) }
         ensures nothing { IfOk result (λ driver. All (λ kept. kept ≡ None) driver.holds.items) }
         ensures many { IfOk result (λ driver. length driver.clients.items ≡ sessions) }
@@ -129,6 +130,7 @@ impl<K: Keeper> Driver<K> {
         ensures driver { OnOk result (IsDriver self.new) }
         ensures sessions { OnOk result (length self.new.holds.items ≡ length self.old.holds.items) }
         ensures behind { OnOk result (IsBehind line self.old.book.journal self.new.book.journal) }
+        ensures goes_on { OnOk result (GoesOn K.tells self.old.book self.new.book) }
     {
         let by = By {
             seat: 0,
@@ -236,6 +238,7 @@ impl<K: Keeper> Driver<K> {
         ensures driver { OnOk result (IsDriver self.new) }
         ensures holds { self.new.holds ≡ self.old.holds }
         ensures quiet { OnOk result (GoesQuietly session self.old.book.journal self.new.book.journal) }
+        ensures rest { OnOk result (self.new.book ≡ with_journal self.old.book self.new.book.journal) }
     {
         let Some(client) = self.clients.get_mut(session as usize) else {
             unreachable!()
@@ -253,6 +256,7 @@ impl<K: Keeper> Driver<K> {
         ensures driver { OnOk result (IsDriver self.new) }
         ensures holds { self.new.holds ≡ self.old.holds }
         ensures quiet { OnOk result (GoesQuietly session self.old.book.journal self.new.book.journal) }
+        ensures rest { OnOk result (self.new.book ≡ with_journal self.old.book self.new.book.journal) }
     {
         let Some(client) = self.clients.get_mut(session as usize) else {
             unreachable!()
@@ -269,6 +273,7 @@ impl<K: Keeper> Driver<K> {
         ensures driver { OnOk result (IsDriver self.new) }
         ensures holds { self.new.holds ≡ self.old.holds }
         ensures goes { OnOk result (GoesApartThenQuietly (next_token self.old.book.journal) session self.old.book.journal self.new.book.journal) }
+        ensures rest { OnOk result (self.new.book ≡ with_journal self.old.book self.new.book.journal) }
     {
         let Some(client) = self.clients.get_mut(session as usize) else {
             unreachable!()
@@ -290,6 +295,7 @@ impl<K: Keeper> Driver<K> {
         ensures driver { OnOk result (IsDriver self.new) }
         ensures sessions { OnOk result (length self.new.holds.items ≡ length self.old.holds.items) }
         ensures apart { OnOk result (GoesApart (next_token self.old.book.journal) self.old.book.journal self.new.book.journal) }
+        ensures rest { OnOk result (self.new.book ≡ with_journal self.old.book self.new.book.journal) }
     {
         let by = By {
             seat: 0,
@@ -323,6 +329,7 @@ impl<K: Keeper> Driver<K> {
         ensures driver { OnOk result (IsDriver self.new) }
         ensures sessions { OnOk result (length self.new.holds.items ≡ length self.old.holds.items) }
         ensures apart { OnOk result (GoesApart 0 self.old.book.journal self.new.book.journal) }
+        ensures rest { OnOk result (self.new.book ≡ with_journal self.old.book self.new.book.journal) }
     {
         let by = By {
             seat: 0,
@@ -452,7 +459,7 @@ fn drain_named<K: Keeper>(
 ) -> Result<(), AllocError>
     ensures drains { OnOk result (DrainsNamed (entry_by 0 (Some number)) Alone session (number_of name.now book.old.journal) book.old.journal book.new.journal) }
     ensures apart { OnOk result (GoesApart (next_token book.old.journal) book.old.journal book.new.journal) }
-    ensures drivers { OnOk result (book.new.drivers ≡ book.old.drivers) }
+    ensures rest { OnOk result (book.new ≡ with_journal book.old book.new.journal) }
 {
     let by = By {
         seat: 0,
@@ -482,7 +489,7 @@ fn flush_named<K: Keeper>(
 ) -> Result<(), AllocError>
     ensures flushes { OnOk result (FlushesNamed (entry_by 0 (Some number)) Alone session (number_of name.now book.old.journal) book.old.journal book.new.journal) }
     ensures apart { OnOk result (GoesApart (next_token book.old.journal) book.old.journal book.new.journal) }
-    ensures drivers { OnOk result (book.new.drivers ≡ book.old.drivers) }
+    ensures goes_on { OnOk result (GoesOn K.tells book.old book.new) }
 {
     let by = By {
         seat: 0,

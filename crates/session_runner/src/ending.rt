@@ -6,8 +6,11 @@ ghost use Rattle.session_lines.specs.Script.{script_of};
 ghost use Rattle.session_lines.specs.Standing.{AreBySessions, AreSlow};
 ghost use Rattle.ending_rules.specs.Ended.{HasEnded};
 ghost use Rattle.journal_rules.specs.Legal.{IsLegal};
-ghost use Rattle.run_rules.specs.Follows.{FollowsUnflushed};
-ghost use Rattle.session_runner.specs.Ending.{AreRun, CanBeTold, EndsAs, Explains, IsTextTold, IsTold, fault_in, fault_text, first_unbuilt as first_unbuilt_lem, line_text};
+ghost use Rattle.run_rules.specs.Completing.{has_flush_failed_at_end, is_flush_failed_at_end as is_flush_failed_at_end_lem};
+ghost use Rattle.run_rules.specs.Follows.{Follows};
+ghost use Rattle.session_runner.specs.Ending.{AreRun, CanBeTold, EndsAs, Explains, GivesBack, HasKeeper, IsTextTold, IsTold, fault_in, fault_text, first_unbuilt as first_unbuilt_lem, line_text, status_by};
+ghost use Rattle.book.specs.Going.{GoesOn};
+ghost use Rattle.session_runner.specs.Holding.{empty_book};
 ghost use Rattle.session_runner.specs.Fitting.{AreBuilt, AreFit, is_built as is_built_lem};
 ghost use Rattle.session_runner.specs.Passing.{passed};
 ghost use Rattle.session_runner.specs.Clients.{AreClientsOf};
@@ -16,6 +19,7 @@ use crate::closing::end_run;
 use crate::driver::{Left, do_lines};
 use crate::report::{WriteFault, write_report};
 use book::Book;
+use journal_entries::{Act, Entry};
 use keeper::Keeper;
 use session_lines::{Line, Names, Script, ScriptFault, read_script};
 use share_client::ShareClient;
@@ -61,7 +65,8 @@ pub(crate) fn prepare<S: Source, K: Keeper>(
     input: &mut S,
     keeper: K,
 ) -> Ending<K>
-    ensures { Explains words.now (passed S.left S.count input.old input.new) result }
+    ensures explains { Explains words.now (passed S.left S.count input.old input.new) result }
+    ensures keeper { HasKeeper K.tells K.documents K.count keeper result }
 {
     if !are_run(words) {
         return Ending::Words(keeper);
@@ -86,7 +91,8 @@ fn are_run(words: &[String]) -> bool
 
 fn ending_of<K: Keeper>(alloc: Global, bytes: &[u8], keeper: K) -> Ending<K>
     requires { length bytes.now ≤ 16777216 }
-    ensures { EndsAs bytes.now result }
+    ensures ends { EndsAs bytes.now result }
+    ensures keeper { HasKeeper K.tells K.documents K.count keeper result }
 {
     let script = match read_script(alloc, bytes) {
         Ok(script) => script,
@@ -167,10 +173,11 @@ fn run_lines<K: Keeper>(
     requires slow { AreSlow 16777216 lines.items }
     requires few { length lines.items ≤ 16777216 }
     ensures legal { IfOk result (λ left. IsLegal left.book.journal) }
-    ensures follows { IfOk result (λ left. FollowsUnflushed lines.items sessions left.book.journal) }
+    ensures follows { IfOk result (λ left. Follows lines.items sessions left.book.journal) }
     ensures ended { IfOk result (λ left. HasEnded left.book.journal) }
     ensures clients { IfOk result (λ left. AreClientsOf left.clients.items left.book.journal) }
     ensures many { IfOk result (λ left. length left.clients.items ≡ sessions) }
+    ensures goes_on { IfOk result (λ left. GoesOn K.tells (empty_book (K.documents keeper) (K.count keeper)) left.book) }
 {
     let Left {
         mut book,
@@ -198,16 +205,43 @@ pub(crate) fn tell<W: Sink, K: Keeper>(alloc: Global, out: &mut W, ending: &Endi
             Err(_) => 4,
         },
         Ending::Done(run) => match write_report(alloc, run, out) {
-            Ok(()) => 0,
+            Ok(()) => run_status(&run.book),
             Err(WriteFault::Failed) => 6,
             Err(WriteFault::Memory) => 4,
         },
     }
 }
 
+// The status of a run whose report was written: 7 where a flush at its end failed, and else 0.
+fn run_status<K: Keeper>(book: &Book<K>) -> u8
+    ensures { result ≡ status_by (has_flush_failed_at_end book.now.journal) }
+{
+    if has_failed(book.journal().as_slice()) {
+        7
+    } else {
+        0
+    }
+}
+
+// Whether a flush at the end of a run failed.
+fn has_failed(journal: &[Entry]) -> bool
+    ensures { result ≡ has_flush_failed_at_end journal.now }
+{
+    journal.iter().any(|entry| is_flush_failed_at_end(entry))
+}
+
+// Whether an entry is a flush at the end of a run, by seat 0 for no line, that failed.
+fn is_flush_failed_at_end(entry: &Entry) -> bool
+    ensures { result ≡ is_flush_failed_at_end_lem entry.now }
+{
+    entry.line.is_none() && entry.seat == 0 && matches!(entry.act, Act::FlushFailed { .. })
+}
+
 impl<K: Keeper> Ending<K> {
     /// The keeper, once all is told.
-    pub(crate) fn into_keeper(self) -> K {
+    pub(crate) fn into_keeper(self) -> K
+        ensures { GivesBack K.tells K.documents K.count self result }
+    {
         match self {
             Ending::Words(keeper) => keeper,
             Ending::Read(keeper) => keeper,

@@ -1,6 +1,7 @@
 //! A client gets its mail.
 
 ghost use Rattle.std.specs.Prelude.{◌≡◌, OnOk};
+ghost use Rattle.book.specs.Going.{with_journal};
 ghost use Rattle.book.specs.Roomed.{IsClientAfter, IsClientOf};
 ghost use Rattle.run_rules.specs.Lines.{Gets};
 ghost use Rattle.turn_rules.specs.Turns.{Alone, entry_by};
@@ -22,7 +23,7 @@ pub(crate) fn receive_all<K: Keeper>(
     ensures gets { OnOk result (Gets (entry_by by.seat by.line) Alone client.old.client book.old.journal book.new.journal) }
     ensures client { OnOk result (IsClientAfter book.new.journal client.old client.new) }
     ensures quiet { OnOk result (GoesQuietly client.old.client book.old.journal book.new.journal) }
-    ensures drivers { OnOk result (book.new.drivers ≡ book.old.drivers) }
+    ensures rest { OnOk result (book.new ≡ with_journal book.old book.new.journal) }
 {
     'getting: while book.receive(by, client)?.is_some() {}
     Ok(())

@@ -1,7 +1,7 @@
-//! The report of a journal: a line for each entry, then a line for each document, and then one for
-//! each client that ever joined.
+//! The report of a journal: a line for each entry, then a line for each document, then one for each
+//! client that ever joined, and then one for each project.
 
-ghost use Rattle.std.specs.Prelude.{◌≡◌, ◌<◌, ◌^◌, ◌++◌, ℕ, List, [], Option, length, IfOk};
+ghost use Rattle.std.specs.Prelude.{◌≡◌, ◌<◌, ◌^◌, ◌++◌, ℕ, List, [], Option, Some, length, slice_get, IfOk};
 ghost use Rattle.source_sink.specs.Buffered.{Delivered};
 ghost use Rattle.source_sink.specs.Causes.{HasCauseOf};
 ghost use Rattle.source_sink.specs.Outside.{Wrote};
@@ -9,7 +9,8 @@ ghost use Rattle.journal_rules.specs.Documents.{IsMade, makings};
 ghost use Rattle.session_runner.specs.Report.{document_line as document_line_lem, document_lines, entry_lines, report_of};
 ghost use Rattle.session_runner.specs.Writing.{Pushed};
 ghost use Rattle.session_runner.specs.Clients.{AreClientsOf};
-ghost use Rattle.run_rules.specs.Report.{client_line_of, client_lines, end_state as end_state_lem, shown_text};
+ghost use Rattle.run_rules.specs.Report.{client_line_of, client_lines, end_state as end_state_lem, project_line as project_line_lem, project_lines, shown_text};
+ghost use Rattle.project_histories.specs.Handing.{projects_of};
 
 use crate::ending::Run;
 use book::Book;
@@ -19,7 +20,9 @@ use keeper::Keeper;
 use ot_op::Op;
 use ot_text::doc_units;
 use ot_units::{Name, Units};
-use report_text::{ClientEnd, DocEnd, EndState, append_entry_line, client_line, doc_line};
+use report_text::{
+    ClientEnd, DocEnd, EndState, ProjectEnd, append_entry_line, client_line, doc_line, project_line,
+};
 use share_client::ShareClient;
 use source_sink::{Failed, Sink, WriteBuffer};
 use std::alloc::{AllocError, Global};
@@ -84,7 +87,8 @@ fn write_lines<W: Sink, K: Keeper>(
 {
     write_entries(alloc, run.book.journal().as_slice(), buffer, out)?;
     write_documents(alloc, &run.book, buffer, out)?;
-    write_clients(alloc, run, buffer, out)
+    write_clients(alloc, run, buffer, out)?;
+    write_projects(alloc, &run.book, buffer, out)
 }
 
 fn write_entries<W: Sink>(
@@ -144,6 +148,23 @@ fn write_clients<W: Sink, K: Keeper>(
     Ok(())
 }
 
+fn write_projects<W: Sink, K: Keeper>(
+    alloc: Global,
+    book: &Book<K>,
+    buffer: &mut WriteBuffer,
+    out: &mut W,
+) -> Result<(), WriteFault>
+    ensures pushed { (start : Option (List ℕ)) (text : List ℕ) → Delivered start (W.written out.old) buffer.old text
+        → Pushed start (W.written out.new) buffer.new (text ++ project_lines book.now.journal) result }
+    ensures cause { HasCauseOf (W.count out.old) (W.count out.new) result WriteFault.Failed }
+{
+    let projects = book.projects();
+    for place in 0..projects {
+        write_line(line_of_project(alloc, book, place), buffer, out)?;
+    }
+    Ok(())
+}
+
 // Hands a line on, and gives its memory back for the next one.
 fn write_line<W: Sink>(
     line: Result<Vec<u8>, AllocError>,
@@ -180,6 +201,26 @@ fn document_line<K: Keeper>(alloc: Global, book: &Book<K>, doc: u32) -> Result<V
             ranges: book.ranges(doc).copy(alloc)?,
             text: doc_units(alloc, book.text(doc))?,
             v: book.version(doc),
+        },
+    )
+}
+
+// The line of a project at the end, by its place in the order in which they first appear.
+fn line_of_project<K: Keeper>(
+    alloc: Global,
+    book: &Book<K>,
+    place: usize,
+) -> Result<Vec<u8>, AllocError>
+    requires { place < length (projects_of book.now.journal) }
+    ensures { IfOk result (λ bytes. (project : List ℕ) → slice_get (projects_of book.now.journal) place ≡ Some project → bytes.items ≡ project_line_lem project book.now.journal) }
+{
+    project_line(
+        alloc,
+        &ProjectEnd {
+            b: 0,
+            handed: book.history_handed(place),
+            left: book.history_left(place),
+            project: book.project(place).copy(alloc)?,
         },
     )
 }

@@ -4,6 +4,7 @@ ghost use Rattle.std.specs.Prelude.{◌≡◌, OnOk, length};
 ghost use Rattle.journal_rules.specs.Documents.{waiting};
 ghost use Rattle.session_runner.specs.Apart.{GoesApart};
 ghost use Rattle.turn_rules.specs.Draining.{Drains, Stop};
+ghost use Rattle.book.specs.Going.{with_journal};
 ghost use Rattle.book.specs.Roomed.{IsClientAfter, IsClientOf};
 ghost use Rattle.journal_rules.specs.Locks.{next_token};
 ghost use Rattle.run_rules.specs.Lines.{Syncs};
@@ -33,7 +34,7 @@ pub(crate) fn sync_client<K: Keeper>(
     ensures syncs { OnOk result (Syncs (entry_by 0 by.line) Alone client.old.client book.old.journal book.new.journal) }
     ensures client { OnOk result (IsClientAfter book.new.journal client.old client.new) }
     ensures goes { OnOk result (GoesApartThenQuietly (next_token book.old.journal) client.old.client book.old.journal book.new.journal) }
-    ensures drivers { OnOk result (book.new.drivers ≡ book.old.drivers) }
+    ensures rest { OnOk result (book.new ≡ with_journal book.old book.new.journal) }
 {
     if !is_present(client) {
         return book.decline(by, client.client(), Why::NotJoined);
@@ -55,7 +56,7 @@ fn drain_waiting<K: Keeper>(
     requires { by.seat ≡ 0 }
     ensures drains { OnOk result ((stop : Stop) × Drains (entry_by 0 by.line) Alone doc (length (waiting doc book.old.journal)) book.old.journal book.new.journal stop) }
     ensures apart { OnOk result (GoesApart (next_token book.old.journal) book.old.journal book.new.journal) }
-    ensures drivers { OnOk result (book.new.drivers ≡ book.old.drivers) }
+    ensures rest { OnOk result (book.new ≡ with_journal book.old book.new.journal) }
 {
     book.legal();
     let most = book.waiting(doc);

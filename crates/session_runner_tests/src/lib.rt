@@ -3,4 +3,8 @@
 #![tactic(auto)]
 
 #[cfg(test)]
+mod keeping;
+#[cfg(test)]
+mod running;
+#[cfg(test)]
 mod tests;

@@ -3,6 +3,7 @@ use Rattle.std.specs.Prelude.{map}
 use Rattle.journal_rules.specs.Client.{Client}
 use Rattle.turn_rules.specs.Clients.{is_joined}
 use Rattle.run_rules.specs.Ending.{at_end, sending_acts}
+use Rattle.book.specs.Going.{with_journal}
 use Rattle.session_runner.proofs.Catching.{catches_up, quiet_sent, stays_behind}
 use Rattle.session_runner.proofs.Lines.{on_ok}
 use Rattle.session_runner.proofs.Quiet.{quiet_none, quiet_on}
@@ -15,6 +16,7 @@ returns-then-not-is_joined g c =
       catches = stays_behind n j j (ap (λ (s : Client). is_joined s.state) (sym c.requires) ∙ sym c.is_joined.ensures ∙ c.if-not-is_joined.true) refl;
       client = record { client_is = refl; stands = c.requires };
       quiet = quiet_none n j j refl;
+      rest = refl;
     }
 
 pub returns : goal.returns
@@ -25,4 +27,5 @@ returns g c =
       catches = on_ok c.send_own.result (λ sent. catches_up n j mid last joined got.gets (sent ∙ ap (λ k. mid ++ map at_end (sending_acts k mid)) got.client.client_is)) c.send_own.ensures.sends;
       client = on_ok c.send_own.result (λ sent. record { client_is = c.send_own.ensures.client.client_is ∙ got.client.client_is; stands = c.send_own.ensures.client.stands }) c.send_own.ensures.sends;
       quiet = on_ok c.send_own.result (λ sent. quiet_on n j mid last got.quiet (quiet_sent n mid last (sent ∙ ap (λ k. mid ++ map at_end (sending_acts k mid)) got.client.client_is))) c.send_own.ensures.sends;
+      rest = on_ok c.send_own.result (λ rest. rest ∙ ap (λ b. with_journal b last) got.rest) c.send_own.ensures.rest;
     }

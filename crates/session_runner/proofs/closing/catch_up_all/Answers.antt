@@ -1,9 +1,10 @@
-use Rattle.std.proofs.Common.{◌≡◌, ◌∙◌, List, refl, sym, subst, arith, get_or}
+use Rattle.std.proofs.Common.{◌≡◌, ◌∙◌, List, refl, sym, ap, subst, arith, get_or}
 use Rattle.std.specs.Prelude.{slice_get, Some}
 use Rattle.std.proofs.lemmas.List.{length-set}
 use Rattle.std.proofs.lemmas.Option.{slice_get-get_or}
 use Rattle.run_rules.specs.Ending.{CatchesUp}
 use Rattle.share_client.specs.Clients.{Numbered}
+use Rattle.book.specs.Going.{with_journal}
 use Rattle.session_runner.specs.Clients.{AreClientsOf, StayOthers}
 use Rattle.session_runner.proofs.Clients.{one_moves}
 use Rattle.session_runner.proofs.Quiet.{quiet_others}
@@ -13,6 +14,7 @@ use Rattle.session_runner.proofs.closing.catch_up_all.Goals as goal
 pub loop-client-init : goal.loop-client-init
 loop-client-init g c = record {
   catches = refl;
+  rest = refl;
   free = c.requires.free;
   clients = subst (λ (l : List Numbered). AreClientsOf l c.args.book.now.journal) (sym c.deref_mut-client-items.ensures.value) c.requires.clients;
   sessions = refl;
@@ -36,6 +38,7 @@ loop-client-preserved g c =
     let done = c.in_ok-catch_up.ensures in
     record {
       catches = in_order_on CatchesUp at c.args.book.now.journal j k was.catches (subst (λ n. CatchesUp n j k) own done.catches);
+      rest = done.rest ∙ ap (λ b. with_journal b k) was.rest;
       free = λ d. quiet_free item.client j k done.quiet d (was.free d);
       clients = one_moves items at item c.catch_up.new.client j k there done.client (subst (λ n. StayOthers n j k) own (quiet_others item.client j k done.quiet)) was.clients;
       sessions = length-set items at c.catch_up.new.client ∙ was.sessions;

@@ -2,12 +2,14 @@ use Rattle.std.proofs.Common.{◌≡◌, ℕ, length}
 use Rattle.std.specs.Prelude.{None}
 use Rattle.turn_rules.specs.Locking.{busy}
 use Rattle.run_rules.specs.Ending.{CatchesUp, InOrder}
+use Rattle.book.specs.Going.{with_journal}
 use Rattle.session_runner.specs.Clients.{AreClientsOf}
 use Rattle.session_runner.proofs.closing.catch_up_all.Given as goal
 
 abbrev pub invariant-loop-client : goal.invariant-loop-client
 invariant-loop-client g l = record {
   catches : InOrder CatchesUp l.client-index l.initial.book.journal l.book.journal;
+  rest : l.book ≡ with_journal l.initial.book l.book.journal;
   free : (doc : ℕ) → busy doc l.book.journal ≡ None;
   clients : AreClientsOf l.client-items l.book.journal;
   sessions : length l.client-items ≡ length l.initial.client-items;

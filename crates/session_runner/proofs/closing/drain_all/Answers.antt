@@ -1,6 +1,7 @@
 use Rattle.std.proofs.Common.{◌≡◌, ◌∙◌, ℕ, length, ap, subst, arith}
 use Rattle.journal_rules.specs.Documents.{makings}
 use Rattle.run_rules.specs.Ending.{DrainsDry, InOrder}
+use Rattle.book.specs.Going.{with_journal}
 use Rattle.session_runner.proofs.Rounding.{in_order_on}
 use Rattle.session_runner.proofs.closing.drain_all.Goals as goal
 
@@ -13,6 +14,7 @@ loop-doc-preserved g c =
     let done = c.in_ok-drain_dry.ensures in let was = c.loop-doc.invariant in
     record {
       drains = in_order_on DrainsDry c.loop-doc.doc c.args.book.now.journal c.loop-doc.book.journal c.drain_dry.new.book.journal was.drains done.dry;
+      rest = done.rest ∙ ap (λ b. with_journal b c.drain_dry.new.book.journal) was.rest;
       free = done.free;
       stay = λ n. done.stay n ∙ was.stay n;
       makings = done.makings ∙ was.makings;

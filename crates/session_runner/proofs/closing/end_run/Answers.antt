@@ -11,10 +11,13 @@ use Rattle.turn_rules.specs.Locking.{busy}
 use Rattle.turn_rules.specs.Turns.{entry_by}
 use Rattle.run_rules.specs.Ending.{Rounds, at_end}
 use Rattle.run_rules.proofs.Free.{expired}
+use Rattle.run_rules.proofs.OneJournal.{rounds_on}
 use Rattle.book.specs.Shown.{Shown}
+use Rattle.book.proofs.Going.{goes_further, goes_rest}
 use Rattle.session_runner.specs.Clients.{AreClientsOf}
 use Rattle.session_runner.proofs.Clients.{all_stay, one_stays}
 use Rattle.session_runner.proofs.Lines.{on_ok}
+use Rattle.session_runner.proofs.Resting.{goes_one}
 use Rattle.session_runner.proofs.closing.end_run.Goals as goal
 
 pub close_driver-requires-clause-once : goal.close_driver-requires-clause-once
@@ -39,8 +42,20 @@ go_rounds-requires-clause-clients g c =
     subst (AreClientsOf items) (sym is) (all_stay items closed (closed ++ at_end (Ticked LOCK_LIFE) ∷ []) (one_stays closed (at_end (Ticked LOCK_LIFE)) refl)
     (all_stay items was closed (one_stays was (entry_by 0 None (Closed 0)) refl) c.requires.clients))
 
-pub returns-clause-ends : goal.returns-clause-ends
-returns-clause-ends g c =
-    let is : c.tick.new.book.journal ≡ (c.args.book.now.journal ++ entry_by 0 None (Closed 0) ∷ []) ++ at_end (Ticked LOCK_LIFE) ∷ [] =
+pub returns : goal.returns
+returns g c =
+    let old = c.args.book.now in let closed = old.journal ++ entry_by 0 None (Closed 0) ∷ [] in
+    let mid = c.go_rounds.new.book in let last = c.flush_needed.new.book in
+    let is : c.tick.new.book.journal ≡ closed ++ at_end (Ticked LOCK_LIFE) ∷ [] =
     ap (λ (b : Shown). b.journal) c.in_ok-tick.ensures ∙ ap (λ (b : Shown). b.journal ++ at_end (Ticked LOCK_LIFE) ∷ []) c.close_driver.ensures in
-    on_ok c.go_rounds.result (λ rounds. subst (λ (j : List Entry). Rounds (length c.args.clients.now.items) 3 j c.go_rounds.new.book.journal) is rounds) c.go_rounds.ensures.rounds
+    let done = c.in_ok-go_rounds.ensures in
+    let rounds = subst (λ (j : List Entry). Rounds (length c.args.clients.now.items) 3 j mid.journal) is done.rounds in
+    let on = rounds_on (length c.args.clients.now.items) 3 c.tick.new.book.journal mid.journal done.rounds in
+    let began = goes_further old c.close_driver.new.self c.tick.new.book (goes_one old c.close_driver.new.self 0 None (Closed 0) c.close_driver.ensures) (goes_one c.close_driver.new.self c.tick.new.book 0 None (Ticked LOCK_LIFE) c.in_ok-tick.ensures) in
+    let went = goes_further old c.tick.new.book mid began (goes_rest c.tick.new.book mid on.0 done.rest on.1) in
+    record {
+      ends = on_ok c.flush_needed.result (λ flushes. (mid.journal, rounds, flushes)) c.flush_needed.ensures.flushes;
+      clients = on_ok c.flush_needed.result (λ stay. all_stay c.go_rounds.new.clients.items mid.journal last.journal stay done.clients) c.flush_needed.ensures.stay;
+      sessions = on_ok c.flush_needed.result (λ stay. done.sessions) c.flush_needed.ensures.stay;
+      goes_on = on_ok c.flush_needed.result (λ more. goes_further old mid last went more) c.flush_needed.ensures.goes_on;
+    }

@@ -1,12 +1,13 @@
 use Rattle.std.proofs.Common.{◌≡◌, ◌∙◌, ℕ, true, length, refl, sym, ap, subst}
 use Rattle.ending_rules.specs.Rounds.{needs_round}
 use Rattle.run_rules.specs.Ending.{CatchesUp, InOrder}
+use Rattle.book.specs.Going.{with_journal}
 use Rattle.session_runner.proofs.Clients.{all_stay}
 use Rattle.session_runner.proofs.Rounding.{ends_rounds, no_rounds, one_round}
 use Rattle.session_runner.proofs.closing.go_rounds.Goals as goal
 
 pub rounds-init : goal.rounds-init
-rounds-init g c = record { free = c.requires.free; clients = c.requires.clients; sessions = refl; goes = λ last rest. rest }
+rounds-init g c = record { rest = refl; free = c.requires.free; clients = c.requires.clients; sessions = refl; goes = λ last rest. rest }
 
 pub catch_up_all-requires-clause-clients : goal.catch_up_all-requires-clause-clients
 catch_up_all-requires-clause-clients g c = all_stay c.rounds.clients.items c.rounds.book.journal c.drain_all.new.book.journal c.in_ok-drain_all.ensures.stay c.rounds.invariant.clients
@@ -18,6 +19,7 @@ rounds-preserved g c =
     let sessions = length c.args.clients.now.items in
     let needed : needs_round sessions j ≡ true = ap (λ n. needs_round n j) (sym was.sessions) ∙ sym c.needs_round.ensures ∙ c.if-not-needs_round.false in
     record {
+      rest = done.rest ∙ ap (λ b. with_journal b k) (c.in_ok-drain_all.ensures.rest ∙ ap (λ b. with_journal b mid) was.rest);
       free = done.free;
       clients = done.clients;
       sessions = done.sessions ∙ was.sessions;

@@ -2,12 +2,14 @@ use Rattle.std.proofs.Common.{◌≡◌, ℕ, List, length, None}
 use Rattle.journal_entries.specs.declared.act.Entry.{Entry}
 use Rattle.turn_rules.specs.Locking.{busy}
 use Rattle.run_rules.specs.Ending.{Rounds}
+use Rattle.book.specs.Going.{with_journal}
 use Rattle.session_runner.specs.Clients.{AreClientsOf}
 use Rattle.session_runner.proofs.closing.go_rounds.Given as goal
 
 -- no lock keeps seat 0 out, each session has its client, and however the rounds that are left go, the whole goes so
 abbrev pub invariant-rounds : goal.invariant-rounds
 invariant-rounds g l = record {
+  rest : l.book ≡ with_journal l.initial.book l.book.journal;
   free : (doc : ℕ) → busy doc l.book.journal ≡ None;
   clients : AreClientsOf l.clients.items l.book.journal;
   sessions : length l.clients.items ≡ length l.initial.clients.items;

@@ -13,6 +13,7 @@ use Rattle.run_rules.specs.Keeping.{Preparations, nothing_kept}
 use Rattle.run_rules.specs.Lines.{Leads, numbered}
 use Rattle.turn_rules.specs.Turns.{Alone}
 use Rattle.book.specs.Shown.{Shown}
+use Rattle.book.proofs.Going.{goes_further, goes_same}
 use Rattle.session_runner.specs.Fitting.{AreBuilt, AreFit}
 use Rattle.session_runner.specs.Holding.{IsDriver, kept_in}
 use Rattle.session_runner.proofs.Lines.{by_parts, by_rest, empty_driver, kept_none}
@@ -26,6 +27,7 @@ loop-line-init g c =
     let now = ap clock none ∙ clock-none in
     rw same (record {
       driver = empty_driver c.in_ok-driver.driver (none, ap (λ (b : Shown). b.drivers) new.book) new.nothing new.away (new.many ∙ sym new.sessions);
+      goes_on = goes_same _ c.in_ok-driver.driver.book new.book;
       sessions = new.sessions;
       fit = subst (λ (ms : List Making). AreFit ms c.args.lines.items) (sym (ap makings none ∙ makings-none)) c.requires.fit;
       built = c.requires.built;
@@ -70,6 +72,7 @@ loop-line-preserved g c =
     let count = was.count in let shorter = ap length rest in
     record {
       driver = done.driver;
+      goes_on = goes_further _ c.loop-line.driver.book c.do_line.new.self.book was.goes_on done.goes_on;
       sessions = done.sessions ∙ was.sessions;
       fit = subst (λ (ms : List Making). AreFit ms c.next.new.self.rest.items) (sym behind.makings_are) fit.1;
       built = built.1;

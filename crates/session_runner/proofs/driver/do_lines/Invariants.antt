@@ -8,13 +8,15 @@ use Rattle.run_rules.specs.Keeping.{nothing_kept}
 use Rattle.run_rules.specs.Lines.{Leads, numbered}
 use Rattle.turn_rules.specs.Turns.{Alone}
 use Rattle.session_runner.specs.Fitting.{AreBuilt, AreFit}
-use Rattle.session_runner.specs.Holding.{IsDriver, kept_in}
+use Rattle.book.specs.Going.{GoesOn}
+use Rattle.session_runner.specs.Holding.{IsDriver, empty_book, kept_in}
 use Rattle.session_runner.proofs.driver.do_lines.Given as goal
 
 -- the rest fits, and whatever it leads to, the whole leads to
 abbrev pub invariant-loop-line : goal.invariant-loop-line
 invariant-loop-line g l = record {
   driver : IsDriver l.driver;
+  goes_on : GoesOn g.K.Keeper.tells (empty_book (g.K.Keeper.documents l.fn.keeper) (g.K.Keeper.count l.fn.keeper)) l.driver.book;
   sessions : length l.driver.holds.items ≡ l.fn.sessions;
   fit : AreFit (makings l.driver.book.journal) l.line-iterator.rest.items;
   built : AreBuilt l.line-iterator.rest.items;

@@ -3,8 +3,9 @@ use Rattle.std.specs.Prelude.{slice_get}
 use Rattle.journal_rules.specs.Mail.{mail}
 use Rattle.turn_rules.specs.Turns.{Alone, entry_by}
 use Rattle.run_rules.specs.Lines.{Gets}
+use Rattle.book.specs.Going.{with_journal}
 use Rattle.book.specs.Shown.{Shown}
-use Rattle.session_runner.proofs.Getting.{gets_alone, gets_first, gets_none, gets_quietly, less_mail, not_there}
+use Rattle.session_runner.proofs.Getting.{gets_rest, gets_first, gets_none, gets_quietly, less_mail, not_there}
 use Rattle.session_runner.proofs.Quiet.{quiet_none, quiet_on}
 use Rattle.session_runner.proofs.mail.receive_all.Goals as goal
 
@@ -13,7 +14,7 @@ getting-init g c = record {
   goes = λ last rest. rest;
   client = record { client_is = refl; stands = c.requires.client };
   quiet = quiet_none c.args.client.now.client c.args.book.now.journal c.args.book.now.journal refl;
-  drivers = refl;
+  rest = refl;
 }
 
 pub getting-smaller : goal.getting-smaller
@@ -29,7 +30,7 @@ getting-preserved g c =
       client = record { client_is = got.client.client_is ∙ was.client.client_is; stands = got.client.stands };
       quiet = quiet_on c.args.client.now.client c.args.book.now.journal c.getting.book.journal c.receive.new.self.journal was.quiet
           (gets_quietly c.args.by.seat c.args.by.line c.args.client.now c.getting.client c.getting.book c.receive.new.self c.in_ok-receive.field-0 c.requires.seat was.client.client_is (sym c.is_some.ensures ∙ c.if-is_some.true) got.first got.got);
-      drivers = gets_alone c.args.by.seat c.args.by.line c.args.client.now c.getting.client c.getting.book c.receive.new.self c.in_ok-receive.field-0 c.requires.seat was.client.client_is (sym c.is_some.ensures ∙ c.if-is_some.true) got.first got.got ∙ was.drivers;
+      rest = gets_rest c.args.by.seat c.args.by.line c.args.client.now c.getting.client c.getting.book c.receive.new.self c.in_ok-receive.field-0 c.requires.seat was.client.client_is (sym c.is_some.ensures ∙ c.if-is_some.true) got.first got.got ∙ ap (λ b. with_journal b c.receive.new.self.journal) was.rest;
     }
 
 pub returns-clause-gets : goal.returns-clause-gets

@@ -3,6 +3,7 @@ use Rattle.journal_entries.specs.declared.act.Entry.{Entry}
 use Rattle.journal_rules.specs.Mail.{mail}
 use Rattle.turn_rules.specs.Turns.{Alone, entry_by}
 use Rattle.run_rules.specs.Lines.{Gets}
+use Rattle.book.specs.Going.{with_journal}
 use Rattle.book.specs.Roomed.{IsClientAfter}
 use Rattle.session_runner.specs.Clients.{GoesQuietly}
 use Rattle.session_runner.proofs.mail.receive_all.Given as goal
@@ -13,7 +14,7 @@ invariant-getting g l = record {
   goes : (last : List Entry) → Gets (entry_by 0 l.by.line) Alone l.initial.client.client l.book.journal last → Gets (entry_by 0 l.by.line) Alone l.initial.client.client l.initial.book.journal last;
   client : IsClientAfter l.book.journal l.initial.client l.client;
   quiet : GoesQuietly l.initial.client.client l.initial.book.journal l.book.journal;
-  drivers : l.book.drivers ≡ l.initial.book.drivers;
+  rest : l.book ≡ with_journal l.initial.book l.book.journal;
 }
 
 -- the mail that is left

@@ -37,7 +37,7 @@ returns-in-Done g c =
     record {
       drains = (Done, subst (λ n. Drains (entry_by 0 c.args.by.line) Alone c.args.doc n old new Done) c.waiting-most.ensures (drains_done (entry_by 0 c.args.by.line) c.args.doc c.waiting-most.result c.in-Done.count old new d));
       apart = many_drained c.args.by.line c.args.doc c.in-Done.count old new d.0;
-      drivers = c.drain.ensures.drivers;
+      rest = c.drain.ensures.rest;
     }
 
 pub returns-in-Busy : goal.returns-in-Busy
@@ -48,5 +48,5 @@ returns-in-Busy g c =
     record {
       drains = (HeldUp c.in-Busy.busy, subst (λ n. Drains (entry_by 0 c.args.by.line) Alone c.args.doc n old new (HeldUp c.in-Busy.busy)) c.waiting-most.ensures (drains_held_up (entry_by 0 c.args.by.line) c.args.doc c.waiting-most.result c.in-Busy.count c.in-Busy.busy old new d));
       apart = many_drained c.args.by.line c.args.doc c.in-Busy.count old new d.0;
-      drivers = c.drain.ensures.drivers;
+      rest = c.drain.ensures.rest;
     }

@@ -5,10 +5,12 @@ use Rattle.journal_rules.specs.Documents.{is_named, makings}
 use Rattle.journal_rules.specs.Locks.{clock, next_token}
 use Rattle.session_lines.specs.declared.line.Line.{Line}
 use Rattle.book.specs.Shown.{Shown}
+use Rattle.book.proofs.Going.{goes_rest}
 use Rattle.session_runner.specs.Apart.{IsBehind}
 use Rattle.session_runner.specs.Fitting.{IsFit}
 use Rattle.session_runner.proofs.Apart.{wrote}
-use Rattle.session_runner.proofs.Lines.{apart_behind, apart_raw, behind_doc, behind_tick, both_ok, declined, drained, made, none_found, on_ok, quiet_behind, sent, synced_behind, ticked}
+use Rattle.session_runner.proofs.Resting.{goes_one}
+use Rattle.session_runner.proofs.Lines.{apart_behind, apart_raw, behind_doc, behind_tick, both_ok, declined, drained, goes_synced, made, none_found, on_ok, quiet_behind, sent, synced_behind, ticked}
 use Rattle.session_runner.proofs.driver.Driver.do_line.Goals as goal
 
 pub make-requires-clause-new : goal.make-requires-clause-new
@@ -51,7 +53,7 @@ returns-in-Raw-clause-behind g c =
     (apart_behind _ (next_token old) old new (λ ms. refl) refl (wrote (Some c.args.number) (next_token old) (Declined c.in-Raw.session NoDoc) old new refl (ap (λ (b : Shown). b.journal) is)))) c.decline.ensures.ok
 
 pub returns-in-Drain-clause-driver : goal.returns-in-Drain-clause-driver
-returns-in-Drain-clause-driver g c = on_ok c.drain_named.result (λ g. drained c.args.self.now c.drain_named.new.book (Some c.args.number) g.0 g.1 c.requires.driver) (both_ok _ _ c.drain_named.result c.drain_named.ensures.drivers c.drain_named.ensures.apart)
+returns-in-Drain-clause-driver g c = on_ok c.drain_named.result (λ g. drained c.args.self.now c.drain_named.new.book (Some c.args.number) (ap (λ (b : Shown). b.drivers) g.0) g.1 c.requires.driver) (both_ok _ _ c.drain_named.result c.drain_named.ensures.rest c.drain_named.ensures.apart)
 
 pub returns-in-Drain-clause-behind : goal.returns-in-Drain-clause-behind
 returns-in-Drain-clause-behind g c =
@@ -59,7 +61,7 @@ returns-in-Drain-clause-behind g c =
     on_ok c.drain_named.result (λ g. subst (λ (l : Line). IsBehind l old new) (sym c.in-Drain.is) (apart_behind _ (next_token old) old new (λ ms. refl) refl g)) c.drain_named.ensures.apart
 
 pub returns-in-Flush-clause-driver : goal.returns-in-Flush-clause-driver
-returns-in-Flush-clause-driver g c = on_ok c.flush_named.result (λ g. drained c.args.self.now c.flush_named.new.book (Some c.args.number) g.0 g.1 c.requires.driver) (both_ok _ _ c.flush_named.result c.flush_named.ensures.drivers c.flush_named.ensures.apart)
+returns-in-Flush-clause-driver g c = on_ok c.flush_named.result (λ g. drained c.args.self.now c.flush_named.new.book (Some c.args.number) g.0.drivers_are g.1 c.requires.driver) (both_ok _ _ c.flush_named.result c.flush_named.ensures.goes_on c.flush_named.ensures.apart)
 
 pub returns-in-Flush-clause-behind : goal.returns-in-Flush-clause-behind
 returns-in-Flush-clause-behind g c =
@@ -125,3 +127,55 @@ pub returns-in-Sync-clause-behind : goal.returns-in-Sync-clause-behind
 returns-in-Sync-clause-behind g c =
     let old = c.args.self.now.book.journal in let new = c.sync.new.self.book.journal in
     on_ok c.sync.result (λ g. subst (λ (l : Line). IsBehind l old new) (sym c.in-Sync.is) (synced_behind _ (next_token old) c.in-Sync.session old new (λ ms. refl) refl g)) c.sync.ensures.goes
+
+-- ---- the book goes on
+pub returns-in-Doc-clause-goes_on : goal.returns-in-Doc-clause-goes_on
+returns-in-Doc-clause-goes_on g c = on_ok c.make.result (λ is. goes_one c.args.self.now.book c.make.new.book 0 (Some c.args.number) _ is) c.make.ensures
+
+pub returns-in-Tick-clause-goes_on : goal.returns-in-Tick-clause-goes_on
+returns-in-Tick-clause-goes_on g c = on_ok c.tick.result (λ is. goes_one c.args.self.now.book c.tick.new.book 0 (Some c.args.number) _ is) c.tick.ensures
+
+pub returns-in-Some-clause-goes_on : goal.returns-in-Some-clause-goes_on
+returns-in-Some-clause-goes_on g c = on_ok c.send_raw.result (λ is. goes_one c.args.self.now.book c.send_raw.new.book 0 (Some c.args.number) _ is) c.send_raw.ensures
+
+pub returns-in-Raw-clause-goes_on : goal.returns-in-Raw-clause-goes_on
+returns-in-Raw-clause-goes_on g c = on_ok c.decline.result (λ is. goes_one c.args.self.now.book c.decline.new.self 0 (Some c.args.number) _ is) c.decline.ensures.ok
+
+pub returns-in-Drain-clause-goes_on : goal.returns-in-Drain-clause-goes_on
+returns-in-Drain-clause-goes_on g c = on_ok c.drain_named.result (λ b. goes_rest c.args.self.now.book c.drain_named.new.book b.1.more b.0 b.1.last_is) (both_ok _ _ c.drain_named.result c.drain_named.ensures.rest c.drain_named.ensures.apart)
+
+pub returns-in-Hold-clause-goes_on : goal.returns-in-Hold-clause-goes_on
+returns-in-Hold-clause-goes_on g c = on_ok c.hold.result (λ b. goes_rest c.args.self.now.book c.hold.new.self.book b.1.more b.0 b.1.last_is) (both_ok _ _ c.hold.result c.hold.ensures.rest c.hold.ensures.apart)
+
+pub returns-in-Finish-clause-goes_on : goal.returns-in-Finish-clause-goes_on
+returns-in-Finish-clause-goes_on g c = on_ok c.finish.result (λ b. goes_rest c.args.self.now.book c.finish.new.self.book b.1.more b.0 b.1.last_is) (both_ok _ _ c.finish.result c.finish.ensures.rest c.finish.ensures.apart)
+
+pub returns-in-Sync-clause-goes_on : goal.returns-in-Sync-clause-goes_on
+returns-in-Sync-clause-goes_on g c = on_ok c.sync.result (λ b. goes_synced c.args.self.now.book c.sync.new.self.book (next_token c.args.self.now.book.journal) c.in-Sync.session b.0 b.1) (both_ok _ _ c.sync.result c.sync.ensures.rest c.sync.ensures.goes)
+
+pub returns-in-Join-clause-goes_on : goal.returns-in-Join-clause-goes_on
+returns-in-Join-clause-goes_on g c = on_ok c.join.result (λ b. goes_rest c.args.self.now.book c.join.new.self.book b.1.more b.0 b.1.last_is) (both_ok _ _ c.join.result c.join.ensures.rest c.join.ensures.quiet)
+
+pub returns-in-Ins-clause-goes_on : goal.returns-in-Ins-clause-goes_on
+returns-in-Ins-clause-goes_on g c = on_ok c.tell.result (λ b. goes_rest c.args.self.now.book c.tell.new.self.book b.1.more b.0 b.1.last_is) (both_ok _ _ c.tell.result c.tell.ensures.rest c.tell.ensures.quiet)
+
+pub returns-in-Del-clause-goes_on : goal.returns-in-Del-clause-goes_on
+returns-in-Del-clause-goes_on g c = on_ok c.tell-in-Del.result (λ b. goes_rest c.args.self.now.book c.tell-in-Del.new.self.book b.1.more b.0 b.1.last_is) (both_ok _ _ c.tell-in-Del.result c.tell-in-Del.ensures.rest c.tell-in-Del.ensures.quiet)
+
+pub returns-in-Com-clause-goes_on : goal.returns-in-Com-clause-goes_on
+returns-in-Com-clause-goes_on g c = on_ok c.tell-in-Com.result (λ b. goes_rest c.args.self.now.book c.tell-in-Com.new.self.book b.1.more b.0 b.1.last_is) (both_ok _ _ c.tell-in-Com.result c.tell-in-Com.ensures.rest c.tell-in-Com.ensures.quiet)
+
+pub returns-in-Send-clause-goes_on : goal.returns-in-Send-clause-goes_on
+returns-in-Send-clause-goes_on g c = on_ok c.tell-in-Send.result (λ b. goes_rest c.args.self.now.book c.tell-in-Send.new.self.book b.1.more b.0 b.1.last_is) (both_ok _ _ c.tell-in-Send.result c.tell-in-Send.ensures.rest c.tell-in-Send.ensures.quiet)
+
+pub returns-in-Resend-clause-goes_on : goal.returns-in-Resend-clause-goes_on
+returns-in-Resend-clause-goes_on g c = on_ok c.tell-in-Resend.result (λ b. goes_rest c.args.self.now.book c.tell-in-Resend.new.self.book b.1.more b.0 b.1.last_is) (both_ok _ _ c.tell-in-Resend.result c.tell-in-Resend.ensures.rest c.tell-in-Resend.ensures.quiet)
+
+pub returns-in-Recv-clause-goes_on : goal.returns-in-Recv-clause-goes_on
+returns-in-Recv-clause-goes_on g c = on_ok c.tell-in-Recv.result (λ b. goes_rest c.args.self.now.book c.tell-in-Recv.new.self.book b.1.more b.0 b.1.last_is) (both_ok _ _ c.tell-in-Recv.result c.tell-in-Recv.ensures.rest c.tell-in-Recv.ensures.quiet)
+
+pub returns-in-Leave-clause-goes_on : goal.returns-in-Leave-clause-goes_on
+returns-in-Leave-clause-goes_on g c = on_ok c.tell-in-Leave.result (λ b. goes_rest c.args.self.now.book c.tell-in-Leave.new.self.book b.1.more b.0 b.1.last_is) (both_ok _ _ c.tell-in-Leave.result c.tell-in-Leave.ensures.rest c.tell-in-Leave.ensures.quiet)
+
+pub returns-in-Rejoin-clause-goes_on : goal.returns-in-Rejoin-clause-goes_on
+returns-in-Rejoin-clause-goes_on g c = on_ok c.tell-in-Rejoin.result (λ b. goes_rest c.args.self.now.book c.tell-in-Rejoin.new.self.book b.1.more b.0 b.1.last_is) (both_ok _ _ c.tell-in-Rejoin.result c.tell-in-Rejoin.ensures.rest c.tell-in-Rejoin.ensures.quiet)

@@ -28,6 +28,9 @@ returns-in_default-clause-driver g c =
     record { alone = d.alone; held = subst (λ (hs : List (Option Prepared)). AreHeld hs c.decline.new.self.journal) (sym c.in_default.ensures.now) (given_up holds c.decline.new.self.journal c.args.session c.requires.session d.held); clients = d.clients; many = d.many ∙ sym (ap length c.in_default.ensures.now ∙ length-set holds c.args.session None) })
     c.decline.ensures.ok
 
+pub returns-in_default-clause-gives : goal.returns-in_default-clause-gives
+returns-in_default-clause-gives g c = on_ok c.decline.result (λ is. ap kept_in c.in_default.ensures.now ∙ kept_set c.args.self.now.holds.items c.args.session None c.requires.session) c.decline.ensures.ok
+
 pub commit-requires-clause-seat : goal.commit-requires-clause-seat
 commit-requires-clause-seat g c = sym (c.requires.driver.held.stands c.args.session c.in-Some.prepared c.in-Some.ensures.was).seat_is
 
