@@ -1,0 +1,4 @@
+pub mod Seats
+pub mod Taking
+pub mod Draining
+pub mod Sweeping

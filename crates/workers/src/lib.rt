@@ -1,0 +1,13 @@
+//! Workers: each of them takes turns on a book that stands on a board, and drains the documents that
+//! wakes name, and at the end all of them.
+#![tactic(auto)]
+
+mod draining;
+mod gate;
+mod settling;
+mod turns;
+mod watch;
+mod working;
+
+pub use gate::{Gate, NoGate};
+pub use working::{WorkerDone, WorkerEnd, work};
