@@ -3,6 +3,7 @@ use Rattle.std.proofs.Common.{◌≡◌, ◌⊎◌, inl, inr, ℕ, suc, ◌≤�
 use Rattle.std.specs.Prelude.{slice_get, Some, None}
 use Rattle.std.proofs.lemmas.Bool.{eqb-true}
 use Rattle.std.proofs.lemmas.List.Elements.{All-append}
+use Rattle.journal_laws.proofs.Joins.{is_in-append}
 use Rattle.journal_entries.specs.declared.update.Outcome.{Outcome}
 use Rattle.journal_entries.specs.declared.act.Act.{Act}
 use Rattle.journal_entries.specs.declared.act.Act.TheVariants.{Committed}
@@ -13,11 +14,10 @@ use Rattle.journal_rules.specs.Legal.{IsAllowed, IsLegal}
 use Rattle.journal_rules.proofs.Pushing.{acquirings-push, last_acquiring-push, last_acquiring-none, used-push, used-none}
 use Rattle.journal_rules.proofs.Legality.{Keeps, by_last, front, seam, legal_front, allowed_next}
 use Rattle.journal_rules.proofs.Lists.{some_same}
-use Rattle.journal_rules.proofs.Fencing.{token_bound}
+use Rattle.journal_rules.proofs.Fencing.{token_bound, acquirings_more}
 use Rattle.journal_rules.proofs.Waits.{all_map, all_none, all_one}
 use Rattle.book.specs.Looking.{IsNoCommit}
-use Rattle.book.proofs.Owed.{is_in-append}
-use Rattle.book.proofs.Tokens.{IsFresh, acquirings_more, last_or_new, not_in}
+use Rattle.book.proofs.Tokens.{IsFresh, last_or_new, not_in}
 use Rattle.dup_check.specs.declared.snapshot.Snapshot.{Snapshot}
 
 -- the acquiring of a token stands at its number

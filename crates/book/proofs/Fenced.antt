@@ -1,7 +1,7 @@
 -- Under a token that stands, a document is what a look under this token was.
 use Rattle.std.proofs.Common.{◌≡◌, ℕ, ◌+◌, List, [], ◌∷◌, ◌++◌, append-nil, append_assoc, length, map, Bool, true, false, true≢false, not, refl, sym, ap, ap₂, ◌∙◌, subst, inl, eqb, All}
 use Rattle.std.specs.Prelude.{Option, Some, None, if◌then◌else◌}
-use Rattle.std.proofs.lemmas.Bool.{eqb-true}
+use Rattle.std.proofs.lemmas.Bool.{eqb-true, not-true}
 use Rattle.std.proofs.lemmas.List.Elements.{All-append}
 use Rattle.ranges_tracker.specs.Cells.{plain_row}
 use Rattle.ranges_tracker.specs.Shown.{shown}
@@ -49,10 +49,6 @@ tells true true s e = (refl, refl)
 tells true false s e = absurd (cc)
 tells false h s e = absurd (cc)
 
-flipped : (b : Bool) → not b ≡ true → b ≡ false
-flipped true e = absurd (true≢false (sym e))
-flipped false e = refl
-
 pub under : (d token : ℕ) (j : List Entry) → staleness d token j ≡ None → IsUnder d token j
 under d token j none = by (last_acquiring d j) refl none
   where
@@ -62,7 +58,7 @@ under d token j none = by (last_acquiring d j) refl none
         absurd (true≢false (sym t.1))
     by (Some a) is e =
         let t = tells (eqb a.token token) (not (is_in a.token (released j))) (Other a.token) (sym (ap (λ o. tested o (released j) token) is) ∙ e) in
-        record { acquiring = a; held = record { last = is; standing = flipped (is_in a.token (released j)) t.1 }; token_is = eqb-true a.token token t.0 }
+        record { acquiring = a; held = record { last = is; standing = not-true (is_in a.token (released j)) t.1 }; token_is = eqb-true a.token token t.0 }
 
 -- while a token stands, the document's last acquiring is the one that gave it
 pub last_stays : (doc token : ℕ) (early more j : List Entry) (a : Acquiring) → j ≡ early ++ more → IsLegal j → last_acquiring doc early ≡ Some a → a.token ≡ token → (u : IsUnder doc token j) → a ≡ u.acquiring

@@ -17,7 +17,7 @@ use Rattle.journal_rules.proofs.Pushing.{makings-push, makings-none, applied_lis
 use Rattle.journal_rules.proofs.Legality.{Keeps, by_last, seam, last_or, legal_push}
 use Rattle.journal_rules.proofs.Fencing.{acquired_made}
 use Rattle.journal_laws.proofs.Unmade.{unmade_waits, unmade_applied}
-use Rattle.journal_rules.proofs.Waits.{one_if, committed_below, waiting-more, waiting-committed, waiting-committed_other}
+use Rattle.journal_rules.proofs.Waits.{one_if, committed_below, waiting-more, waiting-committed, waiting-committed_other, waits_still}
 use Rattle.book.specs.declared.document.Document.{Document}
 use Rattle.book.specs.Deciding.{Becomes}
 use Rattle.book.specs.Standing.{AreDocuments, IsDocument, IsNew, IsQueued, IsKeptAs, IsLocked, IsFreed, IsKeptAt, Turns, lock_in, lock_of}
@@ -109,27 +109,23 @@ facts d j seat (Got client brief) legal may apart made = record { makes = none_m
 facts d j seat (LeftAct client) legal may apart made = record { makes = none_made d j; items = refl; locks = lock_still d j seat (LeftAct client) refl refl; caches = refl; keeps = refl }
 facts d j seat _ legal may apart made = absurd apart
 
--- what waits after an entry that commits nothing
-pub waits_none : (d : ℕ) (j : List Entry) (e : Entry) → IsLegal j → ticket_of e.act ≡ [] → sends d e.act ≡ false → waiting d (j ++ e ∷ []) ≡ waiting d j
-waits_none d j e legal none unsent = waiting-more d j e (committed_below j legal) none ∙ ap (λ b. waiting d j ++ one_if b (length j)) unsent ∙ append-nil (waiting d j)
-
 pub waits_on : (d : ℕ) (j : List Entry) (e : Entry) (a : Act) → e.act ≡ a → IsLegal j → IsAllowed j e.seat a → Passes d a → waiting d (j ++ e ∷ []) ≡ waiting d j
 waits_on d j e (Committed doc token ticket outcome) is legal may apart = waiting-committed_other d doc j e ticket may.rest (λ h. apart (sym h)) (ap (sends d) is) (ap ticket_of is) may.first
-waits_on d j e (Sent u) is legal may apart = waits_none d j e legal (ap ticket_of is) (ap (sends d) is ∙ ne_eqb u.doc d apart)
-waits_on d j e (Made doc name project first base) is legal may apart = waits_none d j e legal (ap ticket_of is) (ap (sends d) is)
-waits_on d j e (Ticked ms) is legal may apart = waits_none d j e legal (ap ticket_of is) (ap (sends d) is)
-waits_on d j e (Malformed doc fault) is legal may apart = waits_none d j e legal (ap ticket_of is) (ap (sends d) is)
-waits_on d j e (Acquired doc token until) is legal may apart = waits_none d j e legal (ap ticket_of is) (ap (sends d) is)
-waits_on d j e (Released doc token) is legal may apart = waits_none d j e legal (ap ticket_of is) (ap (sends d) is)
-waits_on d j e (Flushed doc token v) is legal may apart = waits_none d j e legal (ap ticket_of is) (ap (sends d) is)
-waits_on d j e (FlushFailed doc token from to) is legal may apart = waits_none d j e legal (ap ticket_of is) (ap (sends d) is)
-waits_on d j e (Handed project count) is legal may apart = waits_none d j e legal (ap ticket_of is) (ap (sends d) is)
-waits_on d j e (Declined session why) is legal may apart = waits_none d j e legal (ap ticket_of is) (ap (sends d) is)
-waits_on d j e (Closed driver) is legal may apart = waits_none d j e legal (ap ticket_of is) (ap (sends d) is)
-waits_on d j e (JoinedAct client doc user track since source v) is legal may apart = waits_none d j e legal (ap ticket_of is) (ap (sends d) is)
-waits_on d j e (Edited client comp) is legal may apart = waits_none d j e legal (ap ticket_of is) (ap (sends d) is)
-waits_on d j e (Got client brief) is legal may apart = waits_none d j e legal (ap ticket_of is) (ap (sends d) is)
-waits_on d j e (LeftAct client) is legal may apart = waits_none d j e legal (ap ticket_of is) (ap (sends d) is)
+waits_on d j e (Sent u) is legal may apart = waits_still d j e legal (ap ticket_of is) (ap (sends d) is ∙ ne_eqb u.doc d apart)
+waits_on d j e (Made doc name project first base) is legal may apart = waits_still d j e legal (ap ticket_of is) (ap (sends d) is)
+waits_on d j e (Ticked ms) is legal may apart = waits_still d j e legal (ap ticket_of is) (ap (sends d) is)
+waits_on d j e (Malformed doc fault) is legal may apart = waits_still d j e legal (ap ticket_of is) (ap (sends d) is)
+waits_on d j e (Acquired doc token until) is legal may apart = waits_still d j e legal (ap ticket_of is) (ap (sends d) is)
+waits_on d j e (Released doc token) is legal may apart = waits_still d j e legal (ap ticket_of is) (ap (sends d) is)
+waits_on d j e (Flushed doc token v) is legal may apart = waits_still d j e legal (ap ticket_of is) (ap (sends d) is)
+waits_on d j e (FlushFailed doc token from to) is legal may apart = waits_still d j e legal (ap ticket_of is) (ap (sends d) is)
+waits_on d j e (Handed project count) is legal may apart = waits_still d j e legal (ap ticket_of is) (ap (sends d) is)
+waits_on d j e (Declined session why) is legal may apart = waits_still d j e legal (ap ticket_of is) (ap (sends d) is)
+waits_on d j e (Closed driver) is legal may apart = waits_still d j e legal (ap ticket_of is) (ap (sends d) is)
+waits_on d j e (JoinedAct client doc user track since source v) is legal may apart = waits_still d j e legal (ap ticket_of is) (ap (sends d) is)
+waits_on d j e (Edited client comp) is legal may apart = waits_still d j e legal (ap ticket_of is) (ap (sends d) is)
+waits_on d j e (Got client brief) is legal may apart = waits_still d j e legal (ap ticket_of is) (ap (sends d) is)
+waits_on d j e (LeftAct client) is legal may apart = waits_still d j e legal (ap ticket_of is) (ap (sends d) is)
 waits_on d j e _ is legal may apart = absurd apart
 
 -- a document of which an entry says nothing
@@ -220,7 +216,7 @@ module _ (doc : ℕ) (was now : Document) (j : List Entry) (e : Entry) (legal : 
   pub here_acquired : (token until : ℕ) → e.act ≡ Acquired doc token until → token ≡ next_token j → IsLocked (record { last = token; until = until; seat = e.seat; held = true }) was now → IsDocument doc now (j ++ e ∷ [])
   here_acquired token until is next locked =
       moved doc was now j (j ++ e ∷ []) (no_making_more (ap making_of is)) (no_item_more (ap (items_by doc j) is)) locked.same
-      (locked.waiting_is ∙ before.waiting_is ∙ sym (waits_none doc j e legal (ap ticket_of is) (ap (sends doc) is)))
+      (locked.waiting_is ∙ before.waiting_is ∙ sym (waits_still doc j e legal (ap ticket_of is) (ap (sends doc) is)))
       (locked.lock_is ∙ sym (lock_acquired doc token until j e legal is next))
       (still_kept locked.kept_is (ap (λ a. kept_by doc a (kept doc j)) is))
       (still_cached (ap (λ a. cached_by doc a (cached doc j)) is)) before
@@ -228,7 +224,7 @@ module _ (doc : ℕ) (was now : Document) (j : List Entry) (e : Entry) (legal : 
   pub here_released : (token : ℕ) (a : Acquiring) → e.act ≡ Released doc token → last_acquiring doc j ≡ Some a → a.token ≡ token → IsFreed was now → IsDocument doc now (j ++ e ∷ [])
   here_released token a is last same freed =
       moved doc was now j (j ++ e ∷ []) (no_making_more (ap making_of is)) (no_item_more (ap (items_by doc j) is)) freed.same
-      (freed.waiting_is ∙ before.waiting_is ∙ sym (waits_none doc j e legal (ap ticket_of is) (ap (sends doc) is)))
+      (freed.waiting_is ∙ before.waiting_is ∙ sym (waits_still doc j e legal (ap ticket_of is) (ap (sends doc) is)))
       (freed.lock_is ∙ ap (λ l. record { last = l.last; until = l.until; seat = l.seat; held = false }) before.lock_is ∙ sym (lock_released doc token a j e is last same))
       (still_kept freed.kept_is (ap (λ a. kept_by doc a (kept doc j)) is))
       (still_cached (ap (λ a. cached_by doc a (cached doc j)) is)) before
@@ -248,7 +244,7 @@ module _ (doc : ℕ) (was now : Document) (j : List Entry) (e : Entry) (legal : 
   pub here_flushed : (token v : ℕ) → e.act ≡ Flushed doc token v → IsKeptAt v was now → IsDocument doc now (j ++ e ∷ [])
   here_flushed token v is at =
       moved doc was now j (j ++ e ∷ []) (no_making_more (ap making_of is)) (no_item_more (ap (items_by doc j) is)) at.same
-      (at.waiting_is ∙ before.waiting_is ∙ sym (waits_none doc j e legal (ap ticket_of is) (ap (sends doc) is)))
+      (at.waiting_is ∙ before.waiting_is ∙ sym (waits_still doc j e legal (ap ticket_of is) (ap (sends doc) is)))
       (at.lock_is ∙ before.lock_is ∙ sym (lock_push doc j e ∙ ap (λ a. lock_in (acquired_by doc e.seat a (last_acquiring doc j)) (released j ++ released_by a)) is ∙ ap (λ l. lock_in (last_acquiring doc j) l) (append-nil (released j))))
       (at.kept_is ∙ sym (kept-push doc j e ∙ ap (λ a. kept_by doc a (kept doc j)) is ∙ ap (λ b. if b then Some v else kept doc j) (eq-eqb doc doc refl)))
       (still_cached (ap (λ a. cached_by doc a (cached doc j)) is)) before
@@ -305,7 +301,7 @@ kept_made documents new j e doc name project first base is may few is_new were =
     items d = applied_list-push d j e ∙ ap (λ a. applied_list d j ++ items_by d j a) is ∙ append-nil (applied_list d j)
 
     waits : (d : ℕ) → waiting d (j ++ e ∷ []) ≡ waiting d j
-    waits d = waits_none d j e were.legal (ap ticket_of is) (ap (sends d) is)
+    waits d = waits_still d j e were.legal (ap ticket_of is) (ap (sends d) is)
 
     by : (d : ℕ) (document : Document) → (slice_get documents d ≡ Some document) ⊎ ((d ≡ length documents) × (document ≡ new)) → IsDocument d document (j ++ e ∷ [])
     by d document (inl at) =

@@ -3,6 +3,7 @@ use Rattle.std.proofs.Common.{◌≡◌, ◌≢◌, ◌⊎◌, inl, inr, ℕ, ze
 use Rattle.std.specs.Prelude.{slice_get, Some, if◌then◌else◌, unwrap_or}
 use Rattle.std.proofs.lemmas.Bool.{cases_lt, eqb-true}
 use Rattle.std.proofs.lemmas.List.Folds.{list_any-append}
+use Rattle.journal_laws.proofs.Joins.{is_in-append}
 use Rattle.journal_rules.specs.Documents.{is_in}
 use Rattle.book.specs.declared.document.Document.{Document}
 use Rattle.book.specs.Standing.{owed_by, owed_for}
@@ -24,9 +25,6 @@ owed_least (y ∷ ys) zero x at = let same : owed_by y ≡ owed_by x = ap (λ o.
 owed_least (y ∷ ys) (suc i) x at = let r = owed_least ys i x at in omega (arith, r)
 
 -- ---- the drivers that haven't closed
-pub is_in-append : (x : ℕ) (xs ys : List ℕ) → is_in x (xs ++ ys) ≡ (is_in x xs || is_in x ys)
-is_in-append x xs ys = list_any-append (λ c. eqb c x) xs ys
-
 or_false : (b : Bool) → (b || (false || false)) ≡ b
 or_false true = refl
 or_false false = refl

@@ -13,7 +13,7 @@ use Rattle.journal_entries.specs.declared.act.Entry.{Entry}
 use Rattle.journal_rules.specs.Client.{is_of}
 use Rattle.journal_rules.specs.Documents.{sends, ticket_of, update_at, waiting}
 use Rattle.journal_rules.specs.Legal.{IsLegal}
-use Rattle.journal_rules.proofs.Waits.{committed_below, one_if, waiting-committed, waiting-committed_other, waiting-more}
+use Rattle.journal_rules.proofs.Waits.{committed_below, one_if, waiting-committed, waiting-committed_other, waiting-more, waits_still}
 use Rattle.mail_places.specs.Places.{IsMailIn, LeavesPlaces, Placed, placed, placed_by, placed_in, told_at, placed_of, placed_own, with_place, without_first}
 use Rattle.mail_places.proofs.Placing.{placed-none, placed-push, placed-same}
 use Rattle.mail_places.proofs.Sources.{own_update}
@@ -26,7 +26,6 @@ use Rattle.book.specs.declared.document.Document.{Document}
 use Rattle.book.specs.Standing.{AreDocuments, IsKeptAs, Turns}
 use Rattle.project_histories.proofs.Lists.{same_item, set_get}
 use Rattle.book.specs.Roomed.{AreRoomed, AreSourced, IsMember, IsThere, posted_by, posted_own}
-use Rattle.book.proofs.Keeping.{waits_none}
 
 there_by : (a a' : Option Membership) (b b' : Option Placed) (j : List Entry) → a' ≡ a → b' ≡ b → IsThere a b j → IsThere a' b' j
 there_by a a' b b' j is at there = rw (is, at) there
@@ -52,7 +51,7 @@ there_kept (Some m) None j k less is = absurd is
 pub roomed_quiet : (rooms : Roomed) (j : List Entry) (e : Entry) → IsLegal j → LeavesPlaces e.act → ticket_of e.act ≡ [] → ((d : ℕ) → sends d e.act ≡ false) → AreRoomed rooms j → AreRoomed rooms (j ++ e ∷ [])
 roomed_quiet rooms j e legal leaves none unsent were c =
     there_by (member c rooms) (member c rooms) (placed c j) (placed c (j ++ e ∷ [])) (j ++ e ∷ []) refl (placed-same c j e leaves)
-    (there_kept (member c rooms) (placed c j) j (j ++ e ∷ []) (λ d. let w = ap length (waits_none d j e legal none (unsent d)) in omega (arith, w)) (were c))
+    (there_kept (member c rooms) (placed c j) j (j ++ e ∷ []) (λ d. let w = ap length (waits_still d j e legal none (unsent d)) in omega (arith, w)) (were c))
 
 -- by an entry whose act says so
 pub roomed_quiet_by : (rooms : Roomed) (j mid k : List Entry) (seat : ℕ) (line : Option ℕ) (act : Act) (e : Entry) → e ≡ record { seat = seat; line = line; act = act } → mid ≡ j → k ≡ mid ++ e ∷ [] → IsLegal j → LeavesPlaces act → ticket_of act ≡ [] → ((d : ℕ) → sends d act ≡ false) → AreRoomed rooms j → AreRoomed rooms k
@@ -95,7 +94,7 @@ roomed_sent rooms j e u legal is room were c =
             let m = more t.1 in
             let l = ap (λ n. length (waiting n j)) t.1 in
             omega (arith, w, o, m, l)
-        by_doc (inr t) = let w = ap length (waits_none d j e legal (ap ticket_of is) (ap (sends d) is ∙ t.0)) in omega (arith, w, enough)
+        by_doc (inr t) = let w = ap length (waits_still d j e legal (ap ticket_of is) (ap (sends d) is ∙ t.0)) in omega (arith, w, enough)
 
     by : (a : Option Membership) → member c rooms ≡ a → (b : Option Placed) → IsThere a b j → IsThere a b k
     by None at None there = tt
@@ -216,7 +215,7 @@ roomed_joined rooms rooms' j e client doc v source room user track since legal i
     k = j ++ e ∷ []
 
     less : (d : ℕ) → length (waiting d k) ≤ length (waiting d j)
-    less d = let w = ap length (waits_none d j e legal (ap ticket_of is) (ap (sends d) is)) in omega (arith, w)
+    less d = let w = ap length (waits_still d j e legal (ap ticket_of is) (ap (sends d) is)) in omega (arith, w)
 
     next : placed c k ≡ (if eqb client c then Some (record { doc = doc; source = source; places = [] }) else placed c j)
     next = placed-push c j e ∙ ap (λ a. placed_by c j a (placed c j)) is
@@ -238,7 +237,7 @@ roomed_left rooms rooms' j e client legal is moves were c = by (eqb_tells client
     k = j ++ e ∷ []
 
     less : (d : ℕ) → length (waiting d k) ≤ length (waiting d j)
-    less d = let w = ap length (waits_none d j e legal (ap ticket_of is) (ap (sends d) is)) in omega (arith, w)
+    less d = let w = ap length (waits_still d j e legal (ap ticket_of is) (ap (sends d) is)) in omega (arith, w)
 
     next : placed c k ≡ (if eqb client c then None else placed c j)
     next = placed-push c j e ∙ ap (λ a. placed_by c j a (placed c j)) is
@@ -282,7 +281,7 @@ roomed_got rooms rooms' j e client brief legal is pops were c = by (eqb_tells cl
     k = j ++ e ∷ []
 
     less : (d : ℕ) → length (waiting d k) ≤ length (waiting d j)
-    less d = let w = ap length (waits_none d j e legal (ap ticket_of is) (ap (sends d) is)) in omega (arith, w)
+    less d = let w = ap length (waits_still d j e legal (ap ticket_of is) (ap (sends d) is)) in omega (arith, w)
 
     next : placed c k ≡ (if eqb client c then option_map without_first (placed c j) else placed c j)
     next = placed-push c j e ∙ ap (λ a. placed_by c j a (placed c j)) is

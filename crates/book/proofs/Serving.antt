@@ -7,7 +7,7 @@ use Rattle.std.proofs.lemmas.Slice.Eq.{bytes_eq-Decides}
 use Rattle.ot_op.specs.declared.comp.Comp.{Comp}
 use Rattle.ot_op.specs.Apply.{applied, stands}
 use Rattle.ot_op.specs.Compose.{appended}
-use Rattle.ot_op.specs.Operation.{is_void}
+use Rattle.ot_op.specs.Operation.{is_void, total_units}
 use Rattle.ot_op.proofs.Pieces.{stands_there}
 use Rattle.ot_units.specs.Text.{part_at}
 use Rattle.ot_op.specs.declared.limits.TheConstants.{MAX_COMPONENTS, MAX_OPERATION_UNITS}
@@ -22,7 +22,7 @@ use Rattle.journal_rules.specs.Client.{client, client_by, sending, update_from}
 use Rattle.journal_rules.specs.Documents.{IsMade, text, text_at, version}
 use Rattle.journal_rules.specs.Locks.{clock}
 use Rattle.journal_rules.specs.Mail.{mail}
-use Rattle.journal_rules.specs.Legal.{IsAllowed, IsLegal, brief_of, units}
+use Rattle.journal_rules.specs.Legal.{IsAllowed, IsLegal, brief_of}
 use Rattle.journal_rules.proofs.Pushing.{client-push}
 use Rattle.journal_laws.proofs.Updates.{text_at_version}
 use Rattle.journal_laws.proofs.World.{joined_alive}
@@ -99,7 +99,7 @@ record Unrefused (s : rules.Client) (edit : Edit) : Type 0 where
   joined : s.state ≡ Joined
   within : edit_end edit ≤ length s.text
   few : length (appended s.pending (edit_comp s.text edit)) ≤ MAX_COMPONENTS
-  short : units (appended s.pending (edit_comp s.text edit)) ≤ MAX_OPERATION_UNITS
+  short : total_units (appended s.pending (edit_comp s.text edit)) ≤ MAX_OPERATION_UNITS
 
 pub first_none : {F : Type 0} (b : Bool) (f : F) (rest : Option F) → (if b then Some f else rest) ≡ None → (b ≡ false) × (rest ≡ None)
 first_none true f rest e = absurd (cc)
@@ -110,13 +110,13 @@ unrefused s edit none =
     let p = appended s.pending (edit_comp s.text edit) in
     let a = first_none (not (is_joined s.state)) NotJoined (if nat_lt (length s.text) (edit_end edit) then Some (PastEnd (length s.text)) else full_fault p) none in
     let b = first_none (nat_lt (length s.text) (edit_end edit)) (PastEnd (length s.text)) (full_fault p) a.1 in
-    let c = first_none (nat_lt MAX_COMPONENTS (length p) || nat_lt MAX_OPERATION_UNITS (units p)) (Full (length p) (units p)) None b.1 in
-    let d = or_parts (nat_lt MAX_COMPONENTS (length p)) (nat_lt MAX_OPERATION_UNITS (units p)) c.0 in
+    let c = first_none (nat_lt MAX_COMPONENTS (length p) || nat_lt MAX_OPERATION_UNITS (total_units p)) (Full (length p) (total_units p)) None b.1 in
+    let d = or_parts (nat_lt MAX_COMPONENTS (length p)) (nat_lt MAX_OPERATION_UNITS (total_units p)) c.0 in
     record {
       joined = joined_if s.state a.0;
       within = ltb-false (length s.text) (edit_end edit) b.0;
       few = ltb-false MAX_COMPONENTS (length p) d.0;
-      short = ltb-false MAX_OPERATION_UNITS (units p) d.1;
+      short = ltb-false MAX_OPERATION_UNITS (total_units p) d.1;
     }
 
 part_stands : (text : List ℕ) (at len : ℕ) → at + len ≤ length text → stands text at (take len (drop at text)) ≡ true
@@ -149,7 +149,7 @@ may_edit j seat was edit own is none =
       solid = edit_solid was.now.text edit is f.within;
       applies = ap (λ (s : rules.Client). is_some (applied s.text comp)) (sym own) ∙ edit_applies was.now.text edit f.within;
       few = subst (λ (s : rules.Client). length (appended s.pending comp) ≤ MAX_COMPONENTS) own f.few;
-      short = subst (λ (s : rules.Client). units (appended s.pending comp) ≤ MAX_OPERATION_UNITS) own f.short;
+      short = subst (λ (s : rules.Client). total_units (appended s.pending comp) ≤ MAX_OPERATION_UNITS) own f.short;
     }
 
 -- ---- sendings

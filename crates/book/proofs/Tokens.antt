@@ -13,7 +13,7 @@ use Rattle.journal_rules.specs.Legal.{IsAllowed, IsLegal}
 use Rattle.journal_rules.proofs.Pushing.{acquirings-push, acquirings-none, last_acquiring-push, last_acquiring-none, released-push, released-none}
 use Rattle.journal_rules.proofs.Legality.{Keeps, by_last}
 use Rattle.journal_rules.proofs.Lists.{some_same}
-use Rattle.journal_rules.proofs.Fencing.{token_bound}
+use Rattle.journal_rules.proofs.Fencing.{token_bound, acquirings_more}
 use Rattle.journal_rules.proofs.Waits.{all_map, all_none, all_one, by_end}
 use Rattle.book.specs.Standing.{lock_in, lock_of}
 use Rattle.book.proofs.Owed.{in_others, in_here}
@@ -21,9 +21,6 @@ use Rattle.book.proofs.Owed.{in_others, in_here}
 one_acquiring : (seat : ℕ) (a : Act) → length (acquiring_of seat a) ≤ 1
 one_acquiring seat (Acquired doc token until) = omega arith
 one_acquiring seat _ = omega arith
-
-pub acquirings_more : (h : List Entry) (e : Entry) → length (acquirings (h ++ e ∷ [])) ≡ length (acquirings h) + length (acquiring_of e.seat e.act)
-acquirings_more h e = ap length (acquirings-push h e) ∙ length-append (acquirings h) (acquiring_of e.seat e.act)
 
 pub acquirings_short : (j : List Entry) → length (acquirings j) ≤ length j
 acquirings_short = by_end (λ j. length (acquirings j) ≤ length j) none more

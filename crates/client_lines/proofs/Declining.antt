@@ -1,10 +1,11 @@
 -- What a line of a client makes is what the rules say of it.
 use Rattle.std.proofs.Common.{◌≡◌, ◌≢◌, ◌⊎◌, inl, inr, ℕ, ◌+◌, ◌<◌, List, [], ◌∷◌, length, Bool, true, false, not, ◌||◌, refl, sym, ap, ap₂, ◌∙◌, subst}
 use Rattle.std.specs.Prelude.{slice_get, Result, Ok, Err, OnOk, Option, Some, None, nat_lt, unwrap_or, if◌then◌else◌}
-use Rattle.std.proofs.lemmas.Bool.{le-ltb, lt-ltb, ltb-true}
+use Rattle.std.proofs.lemmas.Bool.{le-ltb, lt-ltb, ltb-true, or_cases}
 use Rattle.ot_op.specs.declared.comp.Comp.{Comp}
 use Rattle.ot_op.specs.Compose.{appended}
 use Rattle.ot_op.specs.declared.limits.TheConstants.{MAX_COMPONENTS, MAX_OPERATION_UNITS}
+use Rattle.ot_op.specs.Operation.{total_units}
 use Rattle.journal_entries.specs.declared.message.Msg.{Msg}
 use Rattle.journal_entries.specs.declared.update.Update.{Update}
 use Rattle.journal_entries.specs.declared.why.Why.{Why}
@@ -16,7 +17,7 @@ use Rattle.journal_rules.specs.declared.state.ClientState.{ClientState}
 use Rattle.journal_rules.specs.declared.state.ClientState.TheVariants.{Away, Joined, Left, Stale}
 use Rattle.journal_rules.specs.Client as rules
 use Rattle.journal_rules.specs.Client.{client, sending, update_from}
-use Rattle.journal_rules.specs.Legal.{brief_of, units}
+use Rattle.journal_rules.specs.Legal.{brief_of}
 use Rattle.journal_rules.specs.Locks.{clock}
 use Rattle.journal_rules.specs.Documents.{version}
 use Rattle.journal_rules.specs.Deciding.{greatest_age}
@@ -55,11 +56,11 @@ edit_act_is session s e =
     let comp = edit_comp s.text e in
     let p = appended s.pending comp in
     let f = edit_act_by session (Edited session comp) in
-    let full = nat_lt MAX_COMPONENTS (length p) || nat_lt MAX_OPERATION_UNITS (units p) in
+    let full = nat_lt MAX_COMPONENTS (length p) || nat_lt MAX_OPERATION_UNITS (total_units p) in
     sym (by_test f (not (is_joined s.state)) edit.NotJoined (if nat_lt (length s.text) (edit_end e) then Some (edit.PastEnd (length s.text)) else full_fault p)
     ∙ ap (λ (rest : Act). if not (is_joined s.state) then Declined session why.NotJoined else rest)
     (by_test f (nat_lt (length s.text) (edit_end e)) (edit.PastEnd (length s.text)) (full_fault p)
-    ∙ ap (λ (rest : Act). if nat_lt (length s.text) (edit_end e) then Declined session (why.PastEnd (length s.text)) else rest) (by_test f full (edit.Full (length p) (units p)) None)))
+    ∙ ap (λ (rest : Act). if nat_lt (length s.text) (edit_end e) then Declined session (why.PastEnd (length s.text)) else rest) (by_test f full (edit.Full (length p) (total_units p)) None)))
 
 pub edited_act : (session : ℕ) (s t : rules.Client) (e : Edit) → s ≡ t → edit_fault s e ≡ None → Edited session (edit_comp s.text e) ≡ edit_act_of session t (edit_end e) (edit_comp t.text e)
 edited_act session s t e same none =
@@ -85,10 +86,6 @@ first_some false x f rest is = inr (refl, is)
 unjoined : (st : ClientState) → not (is_joined st) ≡ true → st ≢ Joined
 unjoined st is at = let f : true ≡ false = sym is ∙ ap (λ x. not (is_joined x)) at in absurd (cc)
 
-either : (a b : Bool) → (a || b) ≡ true → (a ≡ true) ⊎ (b ≡ true)
-either true b is = inl refl
-either false b is = inr is
-
 pub edit_refused : (j : List Entry) (seat c : ℕ) (s : rules.Client) (e : Edit) (f : EditFault) (y : Why) → s ≡ client c j → IsRefusal s e f → edit_why f ≡ Some y → IsWhy j seat c y
 edit_refused j seat c s e f y same refused is = go f refused is
   where
@@ -101,20 +98,20 @@ edit_refused j seat c s e f y same refused is = go f refused is
     why_is : (f : EditFault) → edit_fault s e ≡ Some f → edit_why f ≡ Some y → IsWhy j seat c y
     why_is f at is = first (first_some (not (is_joined s.state)) edit.NotJoined f _ at)
       where
-        full : (f ≡ edit.Full (length p) (units p)) → (s.state ≡ Joined) → (MAX_COMPONENTS < length p) ⊎ (MAX_OPERATION_UNITS < units p) → IsWhy j seat c y
-        full f_is at_joined big = subst (IsWhy j seat c) (some_same (why.Full (length p) (units p)) y (sym (ap edit_why f_is) ∙ is)) (record { joined = state ∙ at_joined; full = big })
+        full : (f ≡ edit.Full (length p) (total_units p)) → (s.state ≡ Joined) → (MAX_COMPONENTS < length p) ⊎ (MAX_OPERATION_UNITS < total_units p) → IsWhy j seat c y
+        full f_is at_joined big = subst (IsWhy j seat c) (some_same (why.Full (length p) (total_units p)) y (sym (ap edit_why f_is) ∙ is)) (record { joined = state ∙ at_joined; full = big })
 
-        third : (s.state ≡ Joined) → ((nat_lt MAX_COMPONENTS (length p) || nat_lt MAX_OPERATION_UNITS (units p)) ≡ true) × (edit.Full (length p) (units p) ≡ f) ⊎ ((nat_lt MAX_COMPONENTS (length p) || nat_lt MAX_OPERATION_UNITS (units p)) ≡ false) × (None ≡ Some f) → IsWhy j seat c y
-        third at_joined (inl t) = by (either (nat_lt MAX_COMPONENTS (length p)) (nat_lt MAX_OPERATION_UNITS (units p)) t.0)
+        third : (s.state ≡ Joined) → ((nat_lt MAX_COMPONENTS (length p) || nat_lt MAX_OPERATION_UNITS (total_units p)) ≡ true) × (edit.Full (length p) (total_units p) ≡ f) ⊎ ((nat_lt MAX_COMPONENTS (length p) || nat_lt MAX_OPERATION_UNITS (total_units p)) ≡ false) × (None ≡ Some f) → IsWhy j seat c y
+        third at_joined (inl t) = by (or_cases (nat_lt MAX_COMPONENTS (length p)) (nat_lt MAX_OPERATION_UNITS (total_units p)) t.0)
           where
-            by : (nat_lt MAX_COMPONENTS (length p) ≡ true) ⊎ (nat_lt MAX_OPERATION_UNITS (units p) ≡ true) → IsWhy j seat c y
+            by : (nat_lt MAX_COMPONENTS (length p) ≡ true) ⊎ (nat_lt MAX_OPERATION_UNITS (total_units p) ≡ true) → IsWhy j seat c y
             by (inl a) = full (sym t.1) at_joined (inl (ltb-true MAX_COMPONENTS (length p) a))
-            by (inr b) = full (sym t.1) at_joined (inr (ltb-true MAX_OPERATION_UNITS (units p) b))
+            by (inr b) = full (sym t.1) at_joined (inr (ltb-true MAX_OPERATION_UNITS (total_units p) b))
         third at_joined (inr t) = let none = t.1 in absurd (cc)
 
         second : (s.state ≡ Joined) → ((nat_lt (length s.text) (edit_end e) ≡ true) × (edit.PastEnd (length s.text) ≡ f)) ⊎ ((nat_lt (length s.text) (edit_end e) ≡ false) × (full_fault p ≡ Some f)) → IsWhy j seat c y
         second at_joined (inl t) = subst (IsWhy j seat c) (some_same (why.PastEnd (length s.text)) y (ap edit_why t.1 ∙ is)) (record { joined = state ∙ at_joined; len_is = ap (λ (x : rules.Client). length x.text) same })
-        second at_joined (inr t) = third at_joined (first_some (nat_lt MAX_COMPONENTS (length p) || nat_lt MAX_OPERATION_UNITS (units p)) (edit.Full (length p) (units p)) f None t.1)
+        second at_joined (inr t) = third at_joined (first_some (nat_lt MAX_COMPONENTS (length p) || nat_lt MAX_OPERATION_UNITS (total_units p)) (edit.Full (length p) (total_units p)) f None t.1)
 
         first : ((not (is_joined s.state) ≡ true) × (edit.NotJoined ≡ f)) ⊎ ((not (is_joined s.state) ≡ false) × ((if nat_lt (length s.text) (edit_end e) then Some (edit.PastEnd (length s.text)) else full_fault p) ≡ Some f)) → IsWhy j seat c y
         first (inl t) = subst (IsWhy j seat c) (some_same why.NotJoined y (ap edit_why t.1 ∙ is)) (λ at. unjoined s.state t.0 (sym state ∙ at))

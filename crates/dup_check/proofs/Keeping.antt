@@ -2,9 +2,8 @@
 use Rattle.std.proofs.Common.{◌≡◌, ℕ, Bool, true, false, List, ap, sym, ◌∙◌, arith, length, Option, Some, None, subst}
 use Rattle.std.specs.Prelude.{Result, Ok, Err, IfOk, IsSomeAnd, nat_lt, if◌then◌else◌}
 use Rattle.ot_op.specs.declared.comp.Comp.{Comp}
-use Rattle.ot_op.specs.Apply.{applied_all}
+use Rattle.ot_op.specs.Apply.{applied_all, replayed}
 use Rattle.ot_transform.specs.Crossing.{through}
-use Rattle.ot_transform.specs.Convergence.{applied_each}
 use Rattle.ot_transform.specs.Room.{new_units_of_all}
 use Rattle.ot_transform.specs.Size.{NoLarger}
 use Rattle.ot_transform.proofs.Converging.{given_at}
@@ -36,7 +35,7 @@ kept_stuck look d is before edited applied past =
     let none : through look.update.op (operations look.past.items) ≡ None = subst (λ (s : Scan). IsThrough s (through look.update.op (operations look.past.items))) is (scan_through look.update.dup look.update.op look.update.v look.past.items) in
     absurd (subst (λ (o : Option (List Comp)). IsSomeAnd o (λ moved. (to : List ℕ) × (applied_all look.text moved ≡ Some to))) none (follows look.update.op (operations look.past.items) before edited look.text applied past))
 
-applies_now : (look : Snapshot) (made : List Comp) (before edited : List ℕ) → scan_in look ≡ Moved made → applied_all before look.update.op ≡ Some edited → applied_each before (operations look.past.items) ≡ Some look.text → (to : List ℕ) × (applied_all look.text made ≡ Some to)
+applies_now : (look : Snapshot) (made : List Comp) (before edited : List ℕ) → scan_in look ≡ Moved made → applied_all before look.update.op ≡ Some edited → replayed before (operations look.past.items) ≡ Some look.text → (to : List ℕ) × (applied_all look.text made ≡ Some to)
 applies_now look made before edited is applied past =
     subst (λ (o : Option (List Comp)). IsSomeAnd o (λ moved. (to : List ℕ) × (applied_all look.text moved ≡ Some to))) (moved_is look made is) (follows look.update.op (operations look.past.items) before edited look.text applied past)
 

@@ -13,9 +13,6 @@ use Rattle.dup_check.specs.declared.past.Past.{Past}
 use Rattle.dup_check.specs.Snapshot.{operations, numbered}
 
 -- ---- one turn of the loop
-pub source_sought : (x : ℕ) (dup sought : List ℕ) (found b : Bool) → found ≡ is_in x sought → sought ≡ dup → found ≡ b → is_in x dup ≡ b
-source_sought x dup sought found b is same e = sym (is ∙ ap (is_in x) same) ∙ e
-
 pub rest_at : (past : List Past) (k : ℕ) (x : Past) → k < length past → x ≡ get_or past k x → drop k past ≡ x ∷ drop (k + 1) past
 rest_at past k x lt is = at_drop_more (λ (xs : List Past). xs) past k x lt ∙ ap (λ y. y ∷ drop (k + 1) past) (sym is)
 

@@ -1,8 +1,7 @@
 -- What a decision is made from, and what it comes to.
 use Rattle.std.specs.Prelude.{◌≡◌, ◌≢◌, ℕ, ◌+◌, ◌≤◌, ⊤, List, [], ◌∷◌, length, map, Some}
 use Rattle.ot_op.specs.declared.comp.Comp.{Comp}
-use Rattle.ot_op.specs.Apply.{applied_all}
-use Rattle.ot_transform.specs.Convergence.{applied_each}
+use Rattle.ot_op.specs.Apply.{applied_all, replayed}
 use Rattle.ot_transform.specs.Room.{FitsAll}
 use Rattle.ot_transform.specs.Size.{edit_units_in, comments_in}
 use Rattle.ranges_tracker.specs.declared.stamp.Stamp.{Stamp}
@@ -77,4 +76,4 @@ Applies look (Refuse cause) = ⊤
 -- refused as one that doesn't apply
 abbrev pub Keeps : Snapshot → Decision → Type 0
 Keeps look d = (before edited : List ℕ) → applied_all before look.update.op ≡ Some edited
-    → applied_each before (operations look.past.items) ≡ Some look.text → d ≢ Refuse Mismatch
+    → replayed before (operations look.past.items) ≡ Some look.text → d ≢ Refuse Mismatch

@@ -1,7 +1,7 @@
 -- What became of each update: it has one outcome, and an item for it where it was applied.
 use Rattle.std.proofs.Common.{◌≡◌, ◌⊎◌, ℕ, suc, ◌<◌, List, [], ◌∷◌, ◌++◌, length, Bool, true, false, true≢false, not, ◌||◌, refl, sym, ap, ap₂, ◌∙◌, subst, inl, inr, ⊎_elim, arith, eqb, eq-eqb, ne_eqb, append-nil, All}
 use Rattle.std.specs.Prelude.{Option, Some, None, if◌then◌else◌, filter}
-use Rattle.std.proofs.lemmas.Bool.{eqb-true, not-true}
+use Rattle.std.proofs.lemmas.Bool.{eqb-true, not-true, or_right, or_left}
 use Rattle.std.proofs.lemmas.List.Folds.{list_any-append}
 use native.Mathlib.Decide.{ℕ_discrete}
 use Rattle.journal_entries.specs.declared.update.Update.{Update}
@@ -165,13 +165,6 @@ sent_has = by_end (λ j. (t : ℕ) (u : Update) → update_at j t ≡ Some u →
   where
     none : (t : ℕ) (u : Update) → update_at [] t ≡ Some u → is_in t (sent u.doc []) ≡ true
     none t u e = let f : None ≡ Some u = e in absurd (cc)
-
-    or_left : (a b : Bool) → a ≡ true → (a || b) ≡ true
-    or_left a b e = ap (λ x. x || b) e
-
-    or_right : (a b : Bool) → b ≡ true → (a || b) ≡ true
-    or_right true b e = refl
-    or_right false b e = e
 
     more : (h : List Entry) (e : Entry) → ((t : ℕ) (u : Update) → update_at h t ≡ Some u → is_in t (sent u.doc h) ≡ true) → (t : ℕ) (u : Update) → update_at (h ++ e ∷ []) t ≡ Some u → is_in t (sent u.doc (h ++ e ∷ [])) ≡ true
     more h e p t u known =

@@ -14,7 +14,7 @@ use Rattle.journal_rules.specs.Legal.{IsAllowed, IsLegal}
 use Rattle.journal_rules.proofs.Pushing.{last_acquiring-push, last_acquiring-none, released-push, clock-push}
 use Rattle.journal_rules.proofs.Legality.{legal_front, allowed_next, by_last}
 use Rattle.journal_rules.proofs.Lists.{some_same}
-use Rattle.journal_rules.proofs.Waits.{all_map, all_none, all_one, one_if, committed_below, waiting-more, waiting-committed}
+use Rattle.journal_rules.proofs.Waits.{all_map, all_none, all_one, one_if, committed_below, waiting-more, waiting-committed, waits_still}
 use Rattle.journal_laws.proofs.ClientsOn.{if_true, if_false}
 use Rattle.ending_rules.proofs.Shapes.{is_of_drain}
 use Rattle.ending_rules.specs.Drained.{TakesFirst}
@@ -130,9 +130,6 @@ load_still d token (Loaded doc holder v) l = record { ticket_none = refl; sends_
 load_still d token (LoadFailed doc holder from to) l = record { ticket_none = refl; sends_not = λ k. refl; takes_not = λ k seat l. refl }
 load_still d token (LoadDiffers doc holder had got) l = record { ticket_none = refl; sends_not = λ k. refl; takes_not = λ k seat l. refl }
 load_still d token _ l = absurd l
-
-pub waits_still : (d : ℕ) (j : List Entry) (e : Entry) → IsLegal j → ticket_of e.act ≡ [] → sends d e.act ≡ false → waiting d (j ++ e ∷ []) ≡ waiting d j
-waits_still d j e legal none unsent = waiting-more d j e (committed_below j legal) none ∙ ap (λ b. waiting d j ++ one_if b (length j)) unsent ∙ append-nil (waiting d j)
 
 module _ (d : ℕ) (h es : List Entry) (legal : IsLegal (h ++ es)) (x : IsDrainedUpdate d es) where
   abbrev taken : List Entry

@@ -1,6 +1,7 @@
 -- What holds behind the rounds holds behind the flushes too.
 use Rattle.std.proofs.Common.{◌≡◌, ◌⊎◌, ℕ, ◌+◌, List, [], ◌∷◌, ◌++◌, length, map, true, false, true≢false, refl, sym, ap, ap₂, ◌∙◌, subst, inl, inr, ⊎_elim, append-nil, All}
 use Rattle.std.specs.Prelude.{Option, Some, None, slice_get}
+use Rattle.journal_rules.proofs.Waits.{waits_still}
 use Rattle.journal_entries.specs.declared.update.Update.{Update}
 use Rattle.journal_entries.specs.declared.update.Outcome.TheVariants.{Refused}
 use Rattle.journal_entries.specs.declared.act.Act.{Act}
@@ -16,7 +17,6 @@ use Rattle.ending_rules.specs.Ended.{AreRefused, IsDone, IsStuck, Rests, HasEnde
 use Rattle.ending_rules.specs.Upkeep.{is_upkeep}
 use Rattle.ending_rules.proofs.Answered.{answer_stays}
 use Rattle.ending_rules.proofs.Apart.{goes_by}
-use Rattle.ending_rules.proofs.Locks.{waits_still}
 
 record Upkeep (a : Act) : Type 0 where
   makes_not : making_of a ≡ []

@@ -1,7 +1,7 @@
 -- A client sends, or joins.
 use Rattle.std.proofs.Common.{◌≡◌, ◌⊎◌, ℕ, ◌+◌, ◌-◌, ◌≤◌, List, [], ◌∷◌, ◌++◌, length, Bool, true, false, true≢false, ◌||◌, refl, sym, ap, ap₂, ◌∙◌, subst, inl, inr, ⊎_elim, arith, eqb, eq-eqb, append-nil, length-append, take, drop}
 use Rattle.std.specs.Prelude.{Option, Some, None, if◌then◌else◌, unwrap_or}
-use Rattle.std.proofs.lemmas.Bool.{eqb-true}
+use Rattle.std.proofs.lemmas.Bool.{eqb-true, or_cases, or_left, or_right}
 use Rattle.std.proofs.lemmas.List.Folds.{list_any-append}
 use Rattle.ot_op.specs.declared.comp.Comp.{Comp}
 use Rattle.ot_op.specs.Apply.{applied_all}
@@ -24,22 +24,11 @@ use Rattle.journal_laws.proofs.Updates.{update_new, mine_stays, mine_below, mine
 use Rattle.journal_laws.proofs.World.{IsWell, World}
 use Rattle.journal_laws.proofs.ClientsOn.{retyped, Caught, catch, text_exists, stays, same_list}
 
-or_case : (a b : Bool) → (a || b) ≡ true → (a ≡ true) ⊎ (b ≡ true)
-or_case true b e = inl refl
-or_case false b e = inr e
-
-or_left : (a b : Bool) → a ≡ true → (a || b) ≡ true
-or_left a b e = ap (λ x. x || b) e
-
-or_right : (a b : Bool) → b ≡ true → (a || b) ≡ true
-or_right true b e = refl
-or_right false b e = e
-
 pub is_in-append : (x : ℕ) (xs ys : List ℕ) → is_in x (xs ++ ys) ≡ (is_in x xs || is_in x ys)
 is_in-append x xs ys = list_any-append (λ y. eqb y x) xs ys
 
 in_one : (x y : ℕ) → is_in x (y ∷ []) ≡ true → x ≡ y
-in_one x y e = ⊎_elim {C = x ≡ y} (λ a. sym (eqb-true y x a)) (λ b. absurd (true≢false (sym b))) (or_case (eqb y x) false e)
+in_one x y e = ⊎_elim {C = x ≡ y} (λ a. sym (eqb-true y x a)) (λ b. absurd (true≢false (sym b))) (or_cases (eqb y x) false e)
 
 one_in : (x y : ℕ) → x ≡ y → is_in x (y ∷ []) ≡ true
 one_in x y e = or_left (eqb y x) false (eq-eqb y x (sym e))
@@ -63,7 +52,7 @@ added_from x source under = go (is_in source under)
   where
     go : (b : Bool) → is_in x (if b then under else under ++ source ∷ []) ≡ true → (is_in x under ≡ true) ⊎ (x ≡ source)
     go true e = inl e
-    go false e = ⊎_elim {C = (is_in x under ≡ true) ⊎ (x ≡ source)} (λ a. inl a) (λ b. inr (in_one x source b)) (or_case (is_in x under) (is_in x (source ∷ [])) (sym (is_in-append x under (source ∷ [])) ∙ e))
+    go false e = ⊎_elim {C = (is_in x under ≡ true) ⊎ (x ≡ source)} (λ a. inl a) (λ b. inr (in_one x source b)) (or_cases (is_in x under) (is_in x (source ∷ [])) (sym (is_in-append x under (source ∷ [])) ∙ e))
 
 module _ (h : List Entry) (e : Entry) (legal : IsLegal h) (may : IsAllowed h e.seat e.act) (w : World h) (c : ℕ) (nothing : (d : ℕ) → items_by d h e.act ≡ []) where
   base_on : (d : ℕ) → IsMade d h → base d (h ++ e ∷ []) ≡ base d h

@@ -7,6 +7,7 @@ use native.Mathlib.Decide.{ℕ_discrete}
 use Rattle.ot_op.specs.declared.comp.Comp.{Comp}
 use Rattle.ot_op.specs.Apply.{applied_all}
 use Rattle.ot_op.specs.Compose.{appended}
+use Rattle.ot_op.specs.Operation.{total_units}
 use Rattle.ot_transform.specs.Crossing.{crossed}
 use Rattle.ot_transform.proofs.Depth.{IfGiven, given_then, given_map, given_any}
 use Rattle.ot_transform.proofs.Converging.{given_at}
@@ -22,7 +23,7 @@ use Rattle.journal_rules.specs.Deciding.{longest}
 use Rattle.journal_rules.specs.Whys.{most_components, most_units}
 use Rattle.journal_rules.specs.Mail.{mail_in, mail}
 use Rattle.journal_rules.specs.Client.{longest_text, Client, client, client_by, Shift, shifted, shifted_to, flight_crossed, landed, bounded, stale, has_flight, flight_fits, places_fit, given_op, given, delivered, is_alive, is_of, caught_up, items_between, joined_by, back_under, edited_by, sent_by, got_by, left_by}
-use Rattle.journal_rules.specs.Legal.{IsAllowed, IsLegal, units}
+use Rattle.journal_rules.specs.Legal.{IsAllowed, IsLegal}
 use Rattle.journal_laws.specs.ClientLaw.{flown, Delivers, StaysUnlessRefused}
 use Rattle.journal_rules.proofs.Pushing.{makings-push, makings-none, client-push, client-none}
 use Rattle.journal_rules.proofs.Legality.{by_last, legal_front, allowed_next}
@@ -97,7 +98,7 @@ small_by c h seat (Edited k comp) s is row a = go (eqb k c) refl
     go true same =
         let mine : k ≡ c = eqb-true k c same in
         let here : client k h ≡ s = ap (λ n. client n h) mine ∙ sym is in
-        let long : units (appended s.pending comp) ≤ most_units = subst (λ (t : Client). units (appended t.pending comp) ≤ most_units) here row.short in
+        let long : total_units (appended s.pending comp) ≤ most_units = subst (λ (t : Client). total_units (appended t.pending comp) ≤ most_units) here row.short in
         let few : length (appended s.pending comp) ≤ most_components = subst (λ (t : Client). length (appended t.pending comp) ≤ most_components) here row.few in
         let u = edits_least (appended s.pending comp) in let k = comments_least (appended s.pending comp) in
         (a.0, (omega (arith, u, long), omega (arith, k, few)))

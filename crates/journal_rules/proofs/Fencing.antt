@@ -56,7 +56,7 @@ new_last d seat (Acquired doc token until) h may = by (eqb doc d)
     by false = inl refl
 new_last d seat _ h may = inl refl
 
-acquirings_more : (h : List Entry) (e : Entry) → length (acquirings (h ++ e ∷ [])) ≡ length (acquirings h) + length (acquiring_of e.seat e.act)
+pub acquirings_more : (h : List Entry) (e : Entry) → length (acquirings (h ++ e ∷ [])) ≡ length (acquirings h) + length (acquiring_of e.seat e.act)
 acquirings_more h e = ap length (acquirings-push h e) ∙ length-append (acquirings h) (acquiring_of e.seat e.act)
 
 pub token_bound : (d : ℕ) (j : List Entry) → IsLegal j → token_in (last_acquiring d j) ≤ length (acquirings j)

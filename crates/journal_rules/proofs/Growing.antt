@@ -63,7 +63,7 @@ cells_at_version d h =
     ap (λ k. tracked (plain_row (first d h)) (take k (applied_list d h))) n ∙ ap (tracked (plain_row (first d h))) (take_all (applied_list d h))
 
 -- ---- the history of a project
-sum-push : (xs : List ℕ) (n : ℕ) → sum (xs ++ n ∷ []) ≡ sum xs + n
+pub sum-push : (xs : List ℕ) (n : ℕ) → sum (xs ++ n ∷ []) ≡ sum xs + n
 sum-push xs n = fold-append (λ a b. a + b) 0 xs (n ∷ [])
 
 -- no more was handed out than there was

@@ -33,6 +33,9 @@ pub makings-push : (j : List Entry) (e : Entry) → makings (j ++ e ∷ []) ≡ 
 unfolding makings
 makings-push j e = gathered-push (λ before e. making_of e.act) j e
 
+pub makings_still : (j : List Entry) (e : Entry) → making_of e.act ≡ [] → makings (j ++ e ∷ []) ≡ makings j
+makings_still j e none = makings-push j e ∙ ap (λ l. makings j ++ l) none ∙ append-nil (makings j)
+
 pub applied_list-push : (d : ℕ) (j : List Entry) (e : Entry) → applied_list d (j ++ e ∷ []) ≡ applied_list d j ++ items_by d j e.act
 unfolding applied_list
 applied_list-push d j e = gathered-push (λ before e. items_by d before e.act) j e

@@ -186,3 +186,10 @@ waiting-committed_other k d j e t rest apart unsent ticket first =
     let is : s.0 ≡ mine.0 = ap (λ o. unwrap_or o s.0) u in
     apart (sym s.2 ∙ ap (λ (x : Update). x.doc) is ∙ mine.2)))
     (sent_facts k j)))
+
+pub waits_still : (d : ℕ) (j : List Entry) (e : Entry) → IsLegal j → ticket_of e.act ≡ [] → sends d e.act ≡ false → waiting d (j ++ e ∷ []) ≡ waiting d j
+waits_still d j e legal none unsent = waiting-more d j e (committed_below j legal) none ∙ ap (λ b. waiting d j ++ one_if b (length j)) unsent ∙ append-nil (waiting d j)
+
+-- a source that is looked for in another list of the same
+pub source_sought : (x : ℕ) (dup sought : List ℕ) (found b : Bool) → found ≡ is_in x sought → sought ≡ dup → found ≡ b → is_in x dup ≡ b
+source_sought x dup sought found b is same e = sym (is ∙ ap (is_in x) same) ∙ e

@@ -149,6 +149,11 @@ abbrev pub got_by : Client → List Msg → Client
 got_by s [] = s
 got_by s (msg ∷ rest) = delivered s msg
 
+-- the user of a client, none before it joins
+abbrev pub user_in : Option (List ℕ) → List ℕ
+user_in (Some user) = user
+user_in None = []
+
 -- a client leaves; one that is away or stale stays so
 abbrev pub left_by : Client → Client
 left_by s = if is_alive s.state then record s { state = Left } else s

@@ -4,7 +4,7 @@ use Rattle.std.specs.List.{list_any}
 use Rattle.std.specs.Option.{option_and_then}
 use Rattle.std.specs.Str.{bytes_eq}
 use Rattle.ot_op.specs.declared.comp.Comp.{Comp}
-use Rattle.ot_op.specs.Apply.{applied_all}
+pub use Rattle.ot_op.specs.Apply.{replayed}
 use Rattle.journal_entries.specs.declared.update.Update.{Update}
 use Rattle.journal_entries.specs.declared.update.Outcome.{Outcome}
 use Rattle.journal_entries.specs.declared.update.Outcome.TheVariants.{Applied}
@@ -101,11 +101,6 @@ operations d journal = map (λ x. x.op) (applied_list d journal)
 
 abbrev pub version : ℕ → List Entry → ℕ
 version d journal = base d journal + length (applied_list d journal)
-
--- a text with operations applied in order
-abbrev pub replayed : List ℕ → List (List Comp) → Option (List ℕ)
-replayed text [] = Some text
-replayed text (op ∷ ops) = option_and_then (λ next. replayed next ops) (applied_all text op)
 
 -- the text of a document at a version from its base to its version
 abbrev pub text_at : ℕ → ℕ → List Entry → Option (List ℕ)

@@ -3,7 +3,7 @@ use Rattle.std.specs.Prelude.{◌≡◌, ◌≢◌, ◌⊎◌, ℕ, ◌+◌, ◌
 use Rattle.std.specs.List.{list_any}
 use Rattle.std.specs.Str.{bytes_eq}
 use Rattle.ot_op.specs.declared.comp.Comp.{Comp}
-use Rattle.ot_op.specs.Operation.{is_void, place, units_of}
+use Rattle.ot_op.specs.Operation.{is_void, place, units_of, total_units}
 use Rattle.ot_op.specs.Apply.{applied}
 use Rattle.ot_op.specs.Compose.{appended}
 use Rattle.expiring_lock.specs.declared.lock.TheConstants.{LOCK_LIFE}
@@ -36,13 +36,10 @@ use Rattle.journal_entries.specs.declared.limits.TheConstants.{FIRST_SOURCE, MAX
 abbrev pub highest_base : ℕ
 highest_base = MAX_BASE
 
-abbrev pub units : List Comp → ℕ
-units op = sum_by units_of op
-
 -- the limits of a raw operation
 pub record IsRaw (op : List Comp) : Type 0 where
   pub few : length op ≤ MAX_COMPONENTS
-  pub short : units op ≤ MAX_OPERATION_UNITS
+  pub short : total_units op ≤ MAX_OPERATION_UNITS
   pub in_reach : All (λ c. place c ≤ MAX_PLACE) op
 
 -- a document is made
@@ -83,7 +80,7 @@ pub record IsEdit (before : List Entry) (c : ℕ) (comp : Comp) : Type 0 where
   pub solid : is_void comp ≡ false
   pub applies : is_some (applied (client c before).text comp) ≡ true
   pub few : length (appended (client c before).pending comp) ≤ most_components
-  pub short : units (appended (client c before).pending comp) ≤ most_units
+  pub short : total_units (appended (client c before).pending comp) ≤ most_units
 
 -- an update without a client
 pub record IsRawUpdate (before : List Entry) (u : Update) : Type 0 where

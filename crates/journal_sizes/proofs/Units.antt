@@ -6,13 +6,13 @@ use Rattle.std.proofs.lemmas.List.Sums.{sum_by-cons}
 use Rattle.ot_op.specs.declared.comp.Comp.{Comp}
 use Rattle.ot_op.specs.declared.comp.Comp.TheVariants.{Ins, Del, Com}
 use Rattle.ot_op.specs.Apply.{applied, applied_all}
-use Rattle.ot_op.specs.Operation.{units_of}
+use Rattle.ot_op.specs.Operation.{units_of, total_units}
 use Rattle.ot_op.proofs.Applying.{First, first_of_all}
 use Rattle.ot_op.proofs.Pieces.{com_cut}
 use Rattle.ot_transform.specs.Size.{edit_units, edit_units_in, comment_count, comments_in}
 use Rattle.journal_entries.specs.declared.act.Entry.{Entry}
 use Rattle.journal_rules.specs.Client.{client, is_alive}
-use Rattle.journal_rules.specs.Legal.{IsLegal, units}
+use Rattle.journal_rules.specs.Legal.{IsLegal}
 use Rattle.journal_rules.proofs.Sizes.{all_size}
 use Rattle.journal_laws.specs.ClientLaw.{Shows}
 use Rattle.journal_laws.proofs.Laws.{shows}
@@ -28,7 +28,7 @@ one_units text next (Com p s k) e le =
     let t : length text ≡ length c.0.front + (length s + length c.0.back) = ap length c.0.is ∙ length-append c.0.front (s ++ c.0.back) ∙ ap (λ k. length c.0.front + k) (length-append s c.0.back) in
     omega (arith, t, le)
 
-all_units : (text next : List ℕ) (cs : List Comp) → applied_all text cs ≡ Some next → length text + edit_units_in cs ≤ 2228224 → units cs ≤ edit_units_in cs + 2228224 * comments_in cs
+all_units : (text next : List ℕ) (cs : List Comp) → applied_all text cs ≡ Some next → length text + edit_units_in cs ≤ 2228224 → total_units cs ≤ edit_units_in cs + 2228224 * comments_in cs
 all_units text next [] e le = omega arith
 all_units text next (c ∷ cs) e le =
     let f : First text c cs next = first_of_all text c cs next e in
@@ -42,7 +42,7 @@ all_units text next (c ∷ cs) e le =
     let rest = all_units f.mid next cs f.rest (omega (arith, b, u, v, le)) in
     omega (arith, u, n, t, one, rest)
 
-pub pending_units : (c : ℕ) (j : List Entry) → IsLegal j → is_alive (client c j).state ≡ true → units (client c j).pending < 2 ^ 32
+pub pending_units : (c : ℕ) (j : List Entry) → IsLegal j → is_alive (client c j).state ≡ true → total_units (client c j).pending < 2 ^ 32
 pending_units c j legal lives =
     let s = client c j in
     let sh : Shows c j s = shows c j legal lives in

@@ -3,6 +3,7 @@
 #![tactic(auto)]
 
 ghost use Rattle.std.specs.Prelude.{◌≡◌, ◌≤◌, ◌<◌, ◌+◌, ◌^◌, ℕ, List, ◌∷◌, length, true, Some, All};
+ghost use Rattle.ot_op.specs.Operation.{total_units};
 ghost use Rattle.journal_entries.specs.declared.limits.TheConstants.{MAX_ENTRIES};
 ghost use Rattle.journal_entries.specs.declared.update.Update.{Update};
 ghost use Rattle.journal_entries.specs.declared.message.Msg.{Msg};
@@ -10,7 +11,7 @@ ghost use Rattle.journal_entries.specs.declared.act.Entry.{Entry};
 ghost use Rattle.journal_rules.specs.Documents.{operations, update_at};
 ghost use Rattle.journal_rules.specs.Mail.{mail};
 ghost use Rattle.journal_rules.specs.Client.{client, is_alive};
-ghost use Rattle.journal_rules.specs.Legal.{IsLegal, highest_base, units};
+ghost use Rattle.journal_rules.specs.Legal.{IsLegal, highest_base};
 ghost use Rattle.journal_sizes.specs.Sizes.{IsAtEase, IsSized, IsSizedMsg};
 
 /// The operation of an update has at most 65,536 units in its inserts and deletes, at most 1,000
@@ -37,7 +38,7 @@ pub fn mail_is_sized()
 
 /// The texts of what is pending, those of its comments too, have fewer units than 2^32.
 pub fn pending_is_small()
-    ensures { (c : ℕ) (journal : List Entry) → IsLegal journal → is_alive (client c journal).state ≡ true → units (client c journal).pending < 2 ^ 32 }
+    ensures { (c : ℕ) (journal : List Entry) → IsLegal journal → is_alive (client c journal).state ≡ true → total_units (client c journal).pending < 2 ^ 32 }
 {}
 
 /// A client's version is no higher than the highest base and the count of entries together.

@@ -8,6 +8,10 @@ abbrev pub count_keys : Option Members → ℕ
 count_keys None = 0
 count_keys (Some ms) = members_len ms
 
+-- what is found, read on
+abbrev pub and_then : {A B : Type 0} → Option A → (A → Option B) → Option B
+and_then o f = option_and_then f o
+
 -- how many keys an object has, and 0 for any other value
 abbrev pub key_count : Data → ℕ
 key_count d = count_keys (as_object d)

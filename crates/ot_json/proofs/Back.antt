@@ -34,7 +34,7 @@ unit_scalar u h = grind (arith, nat_tests)
 unit_basic : (u : ℕ) → IsTrue (is_unit u) → is_basic u ≡ true
 unit_basic u h = grind (arith, nat_tests)
 
-text_scalars : (us : List ℕ) → IsText us → scalars us ≡ true
+pub text_scalars : (us : List ℕ) → IsText us → scalars us ≡ true
 text_scalars [] t = refl
 text_scalars (u ∷ us) t =
     let P : ℕ → Type 0 = λ v. IsTrue (is_unit v) in
@@ -55,7 +55,7 @@ text_same (u ∷ us) t =
 text_chars : (us : List ℕ) → IsText us → chars (encode_utf8_all us) ≡ us
 text_chars us t = chars-encodes us (text_scalars us t)
 
-exact_back : (us : List ℕ) → IsText us → exact_units (encode_utf8_all us) ≡ Some us
+pub exact_back : (us : List ℕ) → IsText us → exact_units (encode_utf8_all us) ≡ Some us
 exact_back us t = rw (text_chars us t, text_basic us t)
 
 sanitized_back : (us : List ℕ) → IsText us → sanitized_units (encode_utf8_all us) ≡ us

@@ -1,5 +1,5 @@
 -- The grammar of operations: the operation that a JSON value is, or its fault, and the value that is written for one.
-use Rattle.std.specs.Prelude.{◌≡◌, ◌≤◌, ℕ, nat_le, ◌&&◌, List, length, map, sum_by, filter_map, [], ◌∷◌, codes, Bool, true, false, Option, Some, None, Result, Ok, Err, if◌then◌else◌, ⊤}
+use Rattle.std.specs.Prelude.{◌≡◌, ◌≤◌, ℕ, nat_le, ◌&&◌, List, length, map, filter_map, [], ◌∷◌, codes, Bool, true, false, Option, Some, None, Result, Ok, Err, if◌then◌else◌, ⊤}
 use Rattle.std.specs.List.{All, position_from}
 use Rattle.json_lines.specs.Object.{units_data}
 use Rattle.serde_json.specs.Data.{Data, number, unsigned, array, object, Items, no_items, item, no_members, member}
@@ -10,7 +10,7 @@ use Rattle.ot_op.specs.declared.comp.Comp.{Comp}
 use Rattle.ot_op.specs.declared.comp.Comp.TheVariants.{Ins, Del, Com}
 use Rattle.ot_op.specs.declared.fault.FormFault.{FormFault}
 use Rattle.ot_op.specs.declared.fault.FormFault.TheVariants as fault
-use Rattle.ot_op.specs.Operation.{place, units_of}
+use Rattle.ot_op.specs.Operation.{place, total_units}
 use Rattle.ot_json.specs.declared.fault.OpFault.{OpFault}
 use Rattle.ot_json.specs.declared.fault.OpFault.TheVariants.{Bad, Memory}
 use Rattle.ot_json.specs.declared.reading.Grammar.{Grammar}
@@ -59,9 +59,6 @@ array_or_fault grammar None = Err (fault.Form 0)
 array_or_fault grammar (Some ds) = components_or_fault (readings grammar ds)
 
 -- ---- how large an operation may be
-
-abbrev pub total_units : List Comp → ℕ
-total_units comps = sum_by units_of comps
 
 abbrev pub unless_large : Result (List Comp) FormFault → Result (List Comp) FormFault
 unless_large (Err f) = Err f

@@ -23,6 +23,11 @@ abbrev pub applied_all : List ℕ → List Comp → Option (List ℕ)
 applied_all text [] = Some text
 applied_all text (c ∷ cs) = option_and_then (λ next. applied_all next cs) (applied text c)
 
+-- operations, each applied to what those before it left
+abbrev pub replayed : List ℕ → List (List Comp) → Option (List ℕ)
+replayed text [] = Some text
+replayed text (op ∷ ops) = option_and_then (λ next. replayed next ops) (applied_all text op)
+
 -- the first k components made the text `left`, to which the next one does not apply
 abbrev pub IsFailing : List ℕ → List Comp → List ℕ → ℕ → Type 0
 IsFailing text comps left k = (k < length comps) × (applied_all text (take k comps) ≡ Some left) × (applied_all left (take 1 (drop k comps)) ≡ None)

@@ -25,3 +25,6 @@ abbrev pub units_of : Comp → ℕ
 units_of (Ins at part) = length part
 units_of (Del at part) = length part
 units_of (Com at part thread) = length part
+
+abbrev pub total_units : List Comp → ℕ
+total_units comps = sum_by units_of comps

@@ -1,10 +1,6 @@
 -- Parts of a list of units, and a list that stands in two slices.
 use Rattle.std.specs.Prelude.{ℕ, ◌<◌, ◌⊎◌, List, ◌++◌, length, take, drop}
 
--- the `len` units from place `at` on
-abbrev pub part_at : List ℕ → ℕ → ℕ → List ℕ
-part_at text at len = take len (drop at text)
-
 -- a list in two slices, either of which may be empty
 pub record Slices : Type 0 where
   pub first : List ℕ

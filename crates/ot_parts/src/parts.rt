@@ -1,7 +1,7 @@
 //! A part of a slice by its place and length.
 
 ghost use Rattle.std.specs.Prelude.{◌≡◌, ◌↔◌, ◌+◌, ◌<◌, ◌≤◌, length, IsNone, IfSome};
-ghost use Rattle.ot_parts.specs.Parts.{part_at};
+ghost use Rattle.ot_units.specs.Text.{part_at};
 
 /// The `len` units of `text` from place `at` on, or `None` where `at + len` is past the end of the
 /// text. Places and lengths count UTF-16 code units.

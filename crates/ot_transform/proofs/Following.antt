@@ -6,10 +6,10 @@ use Rattle.std.specs.Option.{option_and_then}
 use Rattle.std.proofs.lemmas.List.{at_drop_more}
 use Rattle.std.proofs.lemmas.List.Elements.{All-nil, All-cons, All-head, All-tail}
 use Rattle.ot_op.specs.Operation.{place}
-use Rattle.ot_op.specs.Apply.{applied_all}
+use Rattle.ot_op.specs.Apply.{applied_all, replayed}
 use Rattle.ot_op.specs.declared.comp.Comp.{Comp}
 use Rattle.ot_transform.specs.Crossing.{Crossed, crossed, through}
-use Rattle.ot_transform.specs.Convergence.{applied_each, Follows}
+use Rattle.ot_transform.specs.Convergence.{Follows}
 use Rattle.ot_transform.specs.Room.{new_units, new_units_of_all, RoomBelow, Room, Fits, FitsAll}
 use Rattle.ot_transform.specs.Size.{Within, NoLarger, BothNoLarger, edit_units, comment_count}
 use Rattle.ot_transform.proofs.Depth.{IfGiven, given_then, given_weaker}
@@ -23,12 +23,12 @@ use Rattle.ot_transform.proofs.Weights.{Lighter, edits-crossed, comments-crossed
 record FirstPast (text : List ℕ) (op : List Comp) (ops : List (List Comp)) (now : List ℕ) : Type 0 where
   mid : List ℕ
   here : applied_all text op ≡ Some mid
-  rest : applied_each mid ops ≡ Some now
+  rest : replayed mid ops ≡ Some now
 
-first_past : (text : List ℕ) (op : List Comp) (ops : List (List Comp)) (now : List ℕ) → applied_each text (op ∷ ops) ≡ Some now → FirstPast text op ops now
+first_past : (text : List ℕ) (op : List Comp) (ops : List (List Comp)) (now : List ℕ) → replayed text (op ∷ ops) ≡ Some now → FirstPast text op ops now
 first_past text op ops now e = go (applied_all text op) refl e
   where
-    go : (o : Option (List ℕ)) → applied_all text op ≡ o → option_and_then (λ next. applied_each next ops) o ≡ Some now → FirstPast text op ops now
+    go : (o : Option (List ℕ)) → applied_all text op ≡ o → option_and_then (λ next. replayed next ops) o ≡ Some now → FirstPast text op ops now
     go None h f = cc
     go (Some mid) h f = record { mid = mid; here = h; rest = f }
 

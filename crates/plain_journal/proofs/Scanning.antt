@@ -21,9 +21,6 @@ use Rattle.plain_journal.specs.Answers.{operations, item_as, passed_as}
 use Rattle.plain_journal.proofs.Replays.{same_operations}
 
 -- ---- one turn of the loop
-pub source_sought : (x : ℕ) (dup sought : List ℕ) (found b : Bool) → found ≡ is_in x sought → sought ≡ dup → found ≡ b → is_in x dup ≡ b
-source_sought x dup sought found b is same e = sym (is ∙ ap (is_in x) same) ∙ e
-
 module _ (dup : List ℕ) (op : List Comp) (xs : List Item) (i : ℕ) (x : Item) (lt : i < length xs) (is : x ≡ get_or xs i x) where
   abbrev pub rest : List Item
   rest = drop (i + 1) xs

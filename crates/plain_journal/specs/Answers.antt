@@ -1,6 +1,7 @@
 -- What the calls answer, as the definitions name it.
 use Rattle.std.specs.Prelude.{List, [], ◌∷◌, map, Option, Some, None, ℕ}
 use Rattle.ot_op.specs.declared.comp.Comp.{Comp}
+use Rattle.journal_rules.specs.Client.{user_in}
 use Rattle.journal_rules.specs.Documents as rules
 use Rattle.journal_rules.specs.Locks as locks
 use Rattle.journal_rules.specs.Keeping as keeping
@@ -53,11 +54,6 @@ scan_as (scanned.Moved op) = deciding.Moved op
 
 abbrev pub shift_as : Shift → client.Shift
 shift_as x = record { flight = x.flight; pending = x.pending; text = x.text }
-
--- the user of a client, none before it joins
-abbrev pub user_in : Option (List ℕ) → List ℕ
-user_in (Some user) = user
-user_in None = []
 
 abbrev pub client_as : Client → client.Client
 client_as s = record { state = s.state; doc = s.doc; user = user_in s.user; track = s.track; source = s.source; version = s.version; text = s.text; flight = s.flight; pending = s.pending; number = s.number; sources = s.sources }

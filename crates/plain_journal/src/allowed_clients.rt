@@ -4,7 +4,8 @@ ghost use Rattle.std.specs.Prelude.{◌≡◌, ◌↔◌, ◌⊎◌, ◌<◌, �
 ghost use Rattle.journal_rules.specs.declared.state.ClientState.TheVariants as state;
 ghost use Rattle.journal_rules.specs.Client as clients;
 ghost use Rattle.journal_rules.specs.Legal as rules;
-ghost use Rattle.plain_journal.specs.Answers.{client_as, user_in};
+ghost use Rattle.journal_rules.specs.Client.{user_in};
+ghost use Rattle.plain_journal.specs.Answers.{client_as};
 ghost use Rattle.plain_journal.specs.Parts.{HasLeft};
 ghost use Rattle.ot_op.specs.Compose.{appended as appended_lem};
 ghost use Rattle.journal_rules.specs.Deciding.{greatest_age};

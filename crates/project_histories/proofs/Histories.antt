@@ -20,9 +20,9 @@ use Rattle.journal_entries.specs.declared.update.Outcome.TheVariants.{Applied, D
 use Rattle.journal_rules.specs.Documents.{IsMade, Making, making, making_of, makings, text_at, update_at}
 use Rattle.journal_rules.specs.History.{HistoryItem, all_history, handed, handed_by, history, history_by, history_of, is_of_project}
 use Rattle.journal_rules.specs.Legal.{IsLegal, is_project}
-use Rattle.journal_rules.proofs.Growing.{handed_within, history-handed, history-more}
+use Rattle.journal_rules.proofs.Growing.{handed_within, history-handed, history-more, sum-push}
 use Rattle.journal_rules.proofs.Legality.{front, last_or, seam}
-use Rattle.journal_rules.proofs.Pushing.{all_history-none, all_history-push, handed-push, makings-none, makings-push}
+use Rattle.journal_rules.proofs.Pushing.{all_history-none, all_history-push, handed-push, makings-none, makings-push, makings_still}
 use Rattle.journal_rules.proofs.Waits.{by_end}
 use Rattle.project_histories.specs.Handing.{left_of, projects_of, shown_item, with_project, with_projects}
 use Rattle.project_histories.specs.Histories.{Adds, AddsAt, AreHistories, Changes, ChangesOf, HandsOut, HasItem, Histories, IsHistory, IsOf, IsOfSome, IsRoomier, KeepsAll, names_in, place_of}
@@ -72,9 +72,6 @@ same_history x j e legal applies hands was = record {
 moved : {d : ℕ} {n : List ℕ} (h h' : Histories) → names_in h'.projects ≡ names_in h.projects → h'.places ≡ h.places → IsOf d n h → IsOf d n h'
 moved {d} {n} h h' names places was = record { place = was.place; place_is = ap (λ l. slice_get l d) places ∙ was.place_is; named = ap (λ l. slice_get l was.place) names ∙ was.named }
 
-no_making : (j : List Entry) (e : Entry) → making_of e.act ≡ [] → makings (j ++ e ∷ []) ≡ makings j
-no_making j e none = makings-push j e ∙ ap (λ l. makings j ++ l) none ∙ append-nil (makings j)
-
 -- an entry that makes no document, applies nothing and hands nothing out
 module _ (h : Histories) where
   pub histories_same : (j k : List Entry) → k ≡ j → AreHistories h j → AreHistories h k
@@ -82,9 +79,9 @@ module _ (h : Histories) where
 
   pub histories_quiet : (j : List Entry) (e : Entry) → IsLegal j → making_of e.act ≡ [] → ((p : List ℕ) → history_by p j e.act ≡ []) → ((p : List ℕ) → handed_by p e.act ≡ []) → AreHistories h j → AreHistories h (j ++ e ∷ [])
   histories_quiet j e legal makes applies hands were = record {
-    names_are = were.names_are ∙ sym (ap (with_projects []) (no_making j e makes));
-    count = were.count ∙ sym (ap length (no_making j e makes));
-    placed = λ d m at. were.placed d m (sym (ap (λ l. slice_get l d) (no_making j e makes)) ∙ at);
+    names_are = were.names_are ∙ sym (ap (with_projects []) (makings_still j e makes));
+    count = were.count ∙ sym (ap length (makings_still j e makes));
+    placed = λ d m at. were.placed d m (sym (ap (λ l. slice_get l d) (makings_still j e makes)) ∙ at);
     each = λ i x at. same_history x j e legal (applies x.name) (hands x.name) (were.each i x at);
   }
 
@@ -184,7 +181,7 @@ histories_applied h h' j e doc token ticket v op u text item legal is named read
     c = t.changes
 
     same : makings (j ++ e ∷ []) ≡ makings j
-    same = no_making j e (ap making_of is)
+    same = makings_still j e (ap making_of is)
 
     p : List ℕ
     p = c.was.name
@@ -232,16 +229,13 @@ histories_applied h h' j e doc token ticket v op u text item legal is named read
         }
 
 -- ---- items were handed out
-sum_one : (xs : List ℕ) (n : ℕ) → sum (xs ++ n ∷ []) ≡ sum xs + n
-sum_one xs n = let s = sum_by-append (λ (x : ℕ). x) xs (n ∷ []) in omega (arith, s)
-
 pub histories_handed : (h h' : Histories) (j : List Entry) (e : Entry) (p : List ℕ) (n count place : ℕ) → IsLegal j → e.act ≡ Handed p count → place_of p h.projects ≡ Some place
     → (t : Changes place (HandsOut n) h h') → count ≡ length (take n t.was.queue.items) → AreHistories h j → AreHistories h' (j ++ e ∷ [])
 histories_handed h h' j e p n count place legal is at t count_is were =
     changed h h' j (j ++ e ∷ []) place t t.is.name_is (ap (with_projects []) same) same here (λ i x apart there was. same_history x j e legal (ap (history_by x.name j) is) (elsewhere i x apart there) was) were
   where
     same : makings (j ++ e ∷ []) ≡ makings j
-    same = no_making j e (ap making_of is)
+    same = makings_still j e (ap making_of is)
 
     own : t.was.name ≡ p
     own = let x = place_there p h.projects place at in ap name_by (same_item t.was x.0 (sym t.at ∙ x.1)) ∙ x.2
@@ -267,7 +261,7 @@ histories_handed h h' j e p n count place legal is at t count_is were =
         ∙ ap (map shown_item) (sym (history-handed p j e count hands (ap (history_by p j) is)))
 
     more : sum (handed p (j ++ e ∷ [])) ≡ sum (handed p j) + count
-    more = ap sum (handed-push p j e ∙ ap (λ l. handed p j ++ l) hands) ∙ sum_one (handed p j) count
+    more = ap sum (handed-push p j e ∙ ap (λ l. handed p j ++ l) hands) ∙ sum-push (handed p j) count
 
     here : IsHistory t.now (j ++ e ∷ [])
     here = record {

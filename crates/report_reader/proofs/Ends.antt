@@ -8,6 +8,7 @@ use Rattle.ot_op.specs.declared.comp.Comp.{Comp}
 use Rattle.ot_json.specs.Grammar.{long_operation_of, operation_data}
 use Rattle.ot_json.proofs.Given.{all_cons, all_none}
 use Rattle.ot_units.specs.Text.{IsText, exact_units}
+use Rattle.ot_json.proofs.Back.{exact_back}
 use Rattle.ranges_tracker.specs.declared.change.Change.{Change}
 use Rattle.ranges_tracker.specs.declared.change.ChangeKind.{ChangeKind}
 use Rattle.ranges_tracker.specs.declared.change.ChangeKind.TheVariants.{Inserted, Deleted}
@@ -29,7 +30,7 @@ use Rattle.report_reader.specs.Pieces.{shown_by}
 use Rattle.report_reader.specs.Typed.{IfAny, IsLong, IsTypedChange, IsTypedClient, IsTypedComment, IsTypedDocument, IsTypedProject, IsWritable}
 use Rattle.report_reader.proofs.Fine.{AreFine, IsFine, fine_array, fine_none, fine_null, fine_object, fine_units}
 use Rattle.report_reader.proofs.FineLines.{dat, long, nam, num, numbers_fine, operation_fine, opt, txt, uni}
-use Rattle.report_reader.proofs.LineBack.{each_back, name_back, op_back, optional_back, small, units_back}
+use Rattle.report_reader.proofs.LineBack.{each_back, name_back, op_back, optional_back, small}
 
 -- ---- projects
 
@@ -70,7 +71,7 @@ flight_back (Some op) h = ap (λ r. option_map Some (result_ok r)) (op_back op h
 
 text_back : (o : Option (List ℕ)) → IfAny IsText o → or_null (λ text. and_then (as_str text) exact_units) (text_or_null o) ≡ Some o
 text_back None h = refl
-text_back (Some us) h = ap (option_map Some) (units_back us h)
+text_back (Some us) h = ap (option_map Some) (exact_back us h)
 
 state_back : (state : EndState) → state_named (state_name state) ≡ Some state
 state_back Joined = refl
@@ -112,11 +113,11 @@ kind_back Deleted = refl
 
 change_back : (c : Change) → IsTypedChange c → change_of (object (change_members c)) ≡ Some c
 unfolding with_member
-change_back c t = rw (small c.k t.k, small c.at t.at, kind_back c.kind, units_back c.text t.text, name_back c.user t.user) refl
+change_back c t = rw (small c.k t.k, small c.at t.at, kind_back c.kind, exact_back c.text t.text, name_back c.user t.user) refl
 
 comment_back : (c : Comment) → IsTypedComment c → comment_of (object (comment_members c)) ≡ Some c
 unfolding with_member
-comment_back c t = rw (small c.thread t.thread, small c.at t.at, units_back c.text t.text) refl
+comment_back c t = rw (small c.thread t.thread, small c.at t.at, exact_back c.text t.text) refl
 
 pub document_shown : (end : DocEnd) → IsTypedDocument end → shown_by (object (document_members end)) ≡ Some (Document end)
 unfolding with_member
@@ -128,5 +129,5 @@ document_shown end t =
       name_back end.name t.name,
       each_back IsTypedChange change_of (λ c. object (change_members c)) change_back end.ranges.0 t.changes,
       each_back IsTypedComment comment_of (λ c. object (comment_members c)) comment_back end.ranges.1 t.comments,
-      units_back end.text t.text,
+      exact_back end.text t.text,
     ) refl

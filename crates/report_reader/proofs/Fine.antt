@@ -17,6 +17,7 @@ use Rattle.json_lines.specs.Formed.{is_above, all_above, is_formed, items_are_fo
 use Rattle.json_lines.specs.Object.{optional, units_data, with_member}
 use Rattle.json_lines.specs.Utf8.{is_text, has_texts, items_have_texts, members_have_texts}
 use Rattle.ot_units.specs.Text.{IsText, is_name_byte_lem, is_unit}
+use Rattle.ot_json.proofs.Back.{text_scalars}
 use Rattle.report_reader.specs.Typed.{IfAny, IsLong, IsName}
 
 -- ---- keys in order
@@ -152,15 +153,6 @@ fine_optional m None long = fine_null m
 fine_optional m (Some n) long = fine_number m n long
 
 -- ---- texts and names
-
-unit_scalar : (u : ℕ) → IsTrue (is_unit u) → scalar u ≡ true
-unit_scalar u h = grind (arith, nat_tests)
-
-pub text_scalars : (us : List ℕ) → IsText us → scalars us ≡ true
-text_scalars [] t = refl
-text_scalars (u ∷ us) t =
-    let P : ℕ → Type 0 = λ v. IsTrue (is_unit v) in
-    rw (unit_scalar u (All-head P u us t), text_scalars us (All-tail P u us t))
 
 pub fine_units : (m : ℕ) (us : List ℕ) → IsText us → IsFine m (units_data us)
 fine_units m us t =

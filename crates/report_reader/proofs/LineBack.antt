@@ -14,7 +14,7 @@ use Rattle.ot_units.specs.Text.{IsText, exact_units, is_basic, is_unit, name_of}
 use Rattle.ot_op.specs.declared.comp.Comp.{Comp}
 use Rattle.ot_op.specs.declared.fault.FormFault.TheVariants.{Form, Supplementary, TooLarge}
 use Rattle.ot_json.specs.Grammar.{long_operation_of, operation_data}
-use Rattle.ot_json.proofs.Back.{long_reads}
+use Rattle.ot_json.proofs.Back.{long_reads, exact_back}
 use Rattle.expiring_lock.specs.declared.refusal.Stale.TheVariants as stale
 use Rattle.history_queue.specs.declared.item.Item.{Item}
 use Rattle.journal_entries.specs.declared.message.Brief.TheVariants as brief
@@ -35,7 +35,6 @@ use Rattle.report_reader.specs.Fields.{and_then, each_of, max_u32, number_of, or
 use Rattle.report_reader.specs.Kinds.{line_kind}
 use Rattle.report_reader.specs.Pieces.{shown_by}
 use Rattle.report_reader.specs.Typed.{HandsOut, IfAny, IsName, IsSmall, IsTypedAct, IsTypedItem, IsWritable}
-use Rattle.report_reader.proofs.Fine.{text_scalars}
 use Rattle.report_reader.proofs.FineLines.{alone}
 
 -- ---- fields
@@ -45,18 +44,6 @@ small n h = grind (arith, nat_tests)
 
 pub name_back : (s : List ℕ) → IsName s → name_of s ≡ Some s
 name_back s h = ap (λ b. if b then Some s else None) h
-
-unit_basic : (u : ℕ) → IsTrue (is_unit u) → is_basic u ≡ true
-unit_basic u h = grind (arith, nat_tests)
-
-text_basic : (us : List ℕ) → IsText us → list_all is_basic us ≡ true
-text_basic [] t = refl
-text_basic (u ∷ us) t =
-    let P : ℕ → Type 0 = λ v. IsTrue (is_unit v) in
-    rw (unit_basic u (All-head P u us t), text_basic us (All-tail P u us t)) refl
-
-pub units_back : (us : List ℕ) → IsText us → exact_units (encode_utf8_all us) ≡ Some us
-units_back us t = rw (chars-encodes us (text_scalars us t), text_basic us t) refl
 
 pub optional_back : (o : Option ℕ) → or_null number_of (optional o) ≡ Some o
 optional_back None = refl
@@ -100,7 +87,7 @@ module _ (b n seat : ℕ) (at : Option ℕ) (items : List Item) (small_b : IsSma
 
   pub shown : (act : Act) → HandsOut act items → IsTypedAct act → shown_by (line_data act) ≡ Some (piece.Entry (the_line act))
   unfolding with_member
-  shown (Made doc name project first base) none t = as_kind (Made doc name project first base) kind.Made (line_data (Made doc name project first base)) refl refl refl refl refl (ap Some (sym none)) (rw (small doc t.0, name_back name t.1, name_back project t.2, units_back first t.3) refl)
+  shown (Made doc name project first base) none t = as_kind (Made doc name project first base) kind.Made (line_data (Made doc name project first base)) refl refl refl refl refl (ap Some (sym none)) (rw (small doc t.0, name_back name t.1, name_back project t.2, exact_back first t.3) refl)
   shown (Ticked ms) none t = as_kind (Ticked ms) kind.Ticked (line_data (Ticked ms)) refl refl refl refl refl (ap Some (sym none)) (refl)
   shown (Joined client doc user track since source v) none t = as_kind (Joined client doc user track since source v) kind.Joined (line_data (Joined client doc user track since source v)) refl refl refl refl refl (ap Some (sym none)) (rw (small client t.0, small doc t.1, name_back user t.2, optional_back since) refl)
   shown (Edited client comp) none t = as_kind (Edited client comp) kind.Edited (line_data (Edited client comp)) refl refl refl refl refl (ap Some (sym none)) (rw (alone comp t.1, small client t.0, op_back (comp ∷ []) t.1) refl)

@@ -1,15 +1,13 @@
 -- The fields of a line by their kinds.
-use Rattle.std.specs.Prelude.{ℕ, List, [], ◌∷◌, Option, Some, None, option_map, option_and_then}
+use Rattle.std.specs.Prelude.{ℕ, List, [], ◌∷◌, Option, Some, None, option_map}
 use Rattle.std.specs.Result.{result_ok}
 use Rattle.serde_json.specs.Data.{Data, null, boolean, number, string, array, object, Items, no_items, item}
 use Rattle.serde_json.specs.Find.{as_number, as_str, as_u64, get}
+pub use Rattle.json_lines.specs.Reading.{and_then}
 use Rattle.json_lines.specs.Reading.{array_at, text_at, whole_at, within}
 use Rattle.ot_op.specs.declared.comp.Comp.{Comp}
 use Rattle.ot_json.specs.Grammar.{long_operation_of}
 use Rattle.ot_units.specs.Text.{exact_units, name_of}
-
-abbrev pub and_then : {A B : Type 0} → Option A → (A → Option B) → Option B
-and_then o f = option_and_then f o
 
 abbrev pub max_u32 : ℕ
 max_u32 = 4294967295

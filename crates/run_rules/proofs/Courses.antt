@@ -2,6 +2,7 @@
 use Rattle.std.proofs.Common.{◌≡◌, ℕ, ◌+◌, ◌-◌, ◌==◌, List, [], ◌∷◌, ◌++◌, length, Bool, true, false, true≢false, refl, sym, ap, ◌∙◌, subst, eq-eqb, arith, append_assoc, length-append}
 use Rattle.std.specs.Prelude.{Option, Some, None, option_and_then, slice_get, map, filter, if◌then◌else◌}
 use Rattle.std.proofs.lemmas.Bool.{eqb-true}
+use Rattle.journal_rules.specs.Client.{is_of}
 use Rattle.journal_entries.specs.declared.act.Act.{Act}
 use Rattle.journal_entries.specs.declared.act.Entry.{Entry}
 use Rattle.journal_entries.specs.declared.why.Why.{Why}
@@ -12,7 +13,7 @@ use Rattle.session_lines.specs.Script.{session_of}
 use Rattle.run_rules.specs.Keeping.{Preparation, Preparations, keeping, nothing_kept}
 use Rattle.run_rules.specs.Lines.{Joins, Finishes, HoldsIf, HoldsUnless, HoldsNamed, Holds, not_holdable, Does, Leads, numbered}
 use Rattle.run_rules.specs.Plain.{plain_acts}
-use Rattle.run_rules.specs.Sessions.{is_done_by, is_by_session, GoesItsCourse}
+use Rattle.run_rules.specs.Sessions.{is_by_session, GoesItsCourse}
 use Rattle.turn_rules.specs.Turns.{Alone, Among, Turn, entry_by}
 use Rattle.run_rules.proofs.Growing.{among_same, among_on, does_among}
 use Rattle.run_rules.proofs.Widening.{does_wider, leads_wider}
@@ -69,7 +70,7 @@ module _ (seat : ℕ) (Next : List Entry → List Entry → Type 0) (k s : ℕ) 
   quiet : (after : Preparations) → after ≡ kept → mine s ≡ after s
   quiet after e = same ∙ sym (ap (λ (f : Preparations). f s) e)
 
-  does_at : (line : Line) (left last : List Entry) (after : Preparations) → is_done_by s (session_of line) ≡ true → Does seat Next k line kept left last after → DoesAt seat Next k line s mine left last after
+  does_at : (line : Line) (left last : List Entry) (after : Preparations) → is_of s (session_of line) ≡ true → Does seat Next k line kept left last after → DoesAt seat Next k line s mine left last after
   does_at (Join session doc user track) left last after is d = (mine, (d.0, refl), quiet after d.1)
   does_at (Sync session) left last after is d = (mine, (d.0, refl), quiet after d.1)
   does_at (Drain session doc) left last after is d = (mine, (d.0, refl), quiet after d.1)
@@ -112,7 +113,7 @@ module _ (by : Act → Entry) (Next : List Entry → List Entry → Type 0) (s s
   hold_else None name look last after h = hold_named_else (number_of name look) look last after h
 
 does_else : (seat : ℕ) (Next : List Entry → List Entry → Type 0) (k s : ℕ) (line : Line) (kept : Preparations) (left last : List Entry) (after : Preparations)
-    → is_done_by s (session_of line) ≡ false → Does seat Next k line kept left last after → after s ≡ kept s
+    → is_of s (session_of line) ≡ false → Does seat Next k line kept left last after → after s ≡ kept s
 does_else seat Next k s (Join session doc user track) kept left last after not d = ap (λ (f : Preparations). f s) d.1
 does_else seat Next k s (Sync session) kept left last after not d = ap (λ (f : Preparations). f s) d.1
 does_else seat Next k s (Drain session doc) kept left last after not d = ap (λ (f : Preparations). f s) d.1
@@ -138,7 +139,7 @@ module _ (seat : ℕ) (Next : List Entry → List Entry → Type 0) (on : (a b c
 
 -- a session's lines among all
 abbrev is_mine : ℕ → ℕ × Line → Bool
-is_mine s x = is_done_by s (session_of x.1)
+is_mine s x = is_of s (session_of x.1)
 
 module _ (seat s : ℕ) (own : Entry → Bool) where
   -- the entries of other lines are none of its own
@@ -181,7 +182,7 @@ module _ (lines : List Line) (seat s : ℕ) where
       let one : slice_get lines (length front + 1 - 1) ≡ Some x =
       ap (λ (k : ℕ). slice_get lines k) (omega arith) ∙ ap (λ (ls : List Line). slice_get ls (length front)) e ∙ at_front front x back in
       let next : length (front ++ x ∷ []) + 1 ≡ length front + 1 + 1 = ap (λ (n : ℕ). n + 1) (length-append front (x ∷ [])) in (
-        λ other act. ap (λ (line : Option Line). is_done_by s (option_and_then session_of line)) one ∙ other,
+        λ other act. ap (λ (line : Option Line). is_of s (option_and_then session_of line)) one ∙ other,
         subst (λ (k : ℕ). AreApart seat s (is_by_session lines s) (numbered k back)) next (apart (front ++ x ∷ []) back (e ∙ sym (append_assoc front (x ∷ []) back))),
       )
 

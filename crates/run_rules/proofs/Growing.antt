@@ -7,6 +7,7 @@ use Rattle.ot_op.specs.declared.comp.Comp.{Comp}
 use Rattle.ot_op.specs.declared.comp.Comp.TheVariants as comp
 use Rattle.ot_op.specs.declared.fault.FormFault.{FormFault}
 use Rattle.ot_op.specs.Compose.{appended}
+use Rattle.ot_op.specs.Operation.{total_units}
 use Rattle.expiring_lock.specs.declared.refusal.Stale.{Stale}
 use Rattle.expiring_lock.specs.declared.refusal.Stale.TheVariants.{Other}
 use Rattle.journal_entries.specs.declared.update.Outcome.TheVariants.{Refused}
@@ -23,7 +24,7 @@ use Rattle.journal_rules.specs.Deciding.{greatest_age}
 use Rattle.journal_rules.specs.Documents.{makings, number_of, version, waiting}
 use Rattle.journal_rules.specs.History.{history}
 use Rattle.journal_rules.specs.Keeping.{cached}
-use Rattle.journal_rules.specs.Legal.{brief_of, is_project, source_at, units}
+use Rattle.journal_rules.specs.Legal.{brief_of, is_project, source_at}
 use Rattle.journal_rules.specs.Locks.{clock, last_token, next_token}
 use Rattle.journal_rules.specs.Mail.{mail}
 use Rattle.session_lines.specs.declared.line.Line.{Line}
@@ -134,8 +135,8 @@ module _ (ok : Act → Bool) (plain : (act : Act) → is_joining act ≡ false �
   ok_edit session look end comp =
       ok_if (not (is_joined (client session look).state)) (Declined session NotJoined) _ (plain (Declined session NotJoined) refl)
       (ok_if (nat_lt (length (client session look).text) end) (Declined session (PastEnd (length (client session look).text))) _ (plain (Declined session (PastEnd (length (client session look).text))) refl)
-      (ok_if (is_full (appended (client session look).pending comp)) (Declined session (Full (length (appended (client session look).pending comp)) (units (appended (client session look).pending comp)))) (Edited session comp)
-      (plain (Declined session (Full (length (appended (client session look).pending comp)) (units (appended (client session look).pending comp)))) refl) (plain (Edited session comp) refl)))
+      (ok_if (is_full (appended (client session look).pending comp)) (Declined session (Full (length (appended (client session look).pending comp)) (total_units (appended (client session look).pending comp)))) (Edited session comp)
+      (plain (Declined session (Full (length (appended (client session look).pending comp)) (total_units (appended (client session look).pending comp)))) refl) (plain (Edited session comp) refl)))
 
   ok_send : (session : ℕ) (look : List Entry) → IsOk (send_act session look)
   ok_send session look =

@@ -2,6 +2,7 @@
 use Rattle.std.specs.Prelude.{ℕ, ◌+◌, ◌==◌, nat_le, List, [], ◌∷◌, length, Option, Some, None, Result, option_map, option_and_then, codes, if◌then◌else◌}
 use Rattle.serde_json.specs.Data.{Data}
 use Rattle.serde_json.specs.Find.{get}
+pub use Rattle.json_lines.specs.Reading.{and_then}
 use Rattle.json_lines.specs.Reading.{has_key, number_at, whole_at}
 use Rattle.ot_json.specs.Grammar.{operation_of}
 use Rattle.ot_op.specs.declared.comp.Comp.{Comp}
@@ -16,9 +17,6 @@ use Rattle.session_lines.specs.declared.line.Line.TheVariants.{Doc, Tick, Raw, J
 use Rattle.ot_op.specs.declared.limits.TheConstants.{MAX_TEXT_UNITS}
 use Rattle.journal_entries.specs.declared.limits.TheConstants.{MAX_BASE, MAX_RAW_SOURCE}
 use Rattle.session_lines.specs.declared.limits.TheConstants.{MAX_TICK}
-
-abbrev pub and_then : {A B : Type 0} → Option A → (A → Option B) → Option B
-and_then o f = option_and_then f o
 
 -- one key more where an optional field is there
 abbrev pub extra : List ℕ → Data → ℕ

@@ -11,7 +11,7 @@ use Rattle.journal_entries.specs.declared.act.Act.TheVariants.{Joined, Edited, S
 use Rattle.journal_entries.specs.declared.act.Entry.{Entry}
 use Rattle.journal_entries.specs.declared.why.Why.TheVariants.{NotJoined, PastEnd, Full, InFlight, Nothing}
 use Rattle.journal_rules.specs.Client.{Client, client, has_flight, sending}
-use Rattle.journal_rules.specs.Legal.{source_at, units}
+use Rattle.journal_rules.specs.Legal.{source_at}
 use Rattle.journal_rules.specs.Deciding.{greatest_age}
 use Rattle.journal_rules.specs.Documents.{version}
 use Rattle.journal_rules.specs.Locks.{clock, next_token}

@@ -5,11 +5,10 @@ use Rattle.std.proofs.lemmas.List.Sums.{sum_by-cons}
 use Rattle.ot_units.specs.Text.{put_at}
 use Rattle.ot_op.specs.declared.comp.Comp.{Comp}
 use Rattle.ot_op.specs.declared.comp.Comp.TheVariants.{Ins, Del, Com}
-use Rattle.ot_op.specs.Operation.{is_void, units_of}
+use Rattle.ot_op.specs.Operation.{is_void, units_of, total_units}
 use Rattle.ot_op.specs.Compose.{joined, behind, appended}
 use Rattle.ot_transform.proofs.Rooms.{length-put}
 use Rattle.journal_rules.specs.Client.{places_fit}
-use Rattle.journal_rules.specs.Legal.{units}
 use Rattle.journal_rules.proofs.Sizes.{edits_least, comments_least}
 use Rattle.journal_sizes.specs.Sizes.{IsSized}
 use Rattle.share_client.specs.declared.edit.Edit.{Edit}
@@ -17,17 +16,17 @@ use Rattle.share_client.specs.declared.edit.Edit.TheVariants.{Insert, Delete, Co
 use Rattle.share_client.specs.Edits.{edit_comp, edit_length}
 use Rattle.std.proofs.lemmas.List.{length-take}
 
-total_if : (b : Bool) (xs ys : List Comp) (n : ℕ) → units xs ≤ n → units ys ≤ n → units (if b then xs else ys) ≤ n
+total_if : (b : Bool) (xs ys : List Comp) (n : ℕ) → total_units xs ≤ n → total_units ys ≤ n → total_units (if b then xs else ys) ≤ n
 total_if true xs ys n h k = h
 total_if false xs ys n h k = k
 
-one : (c : Comp) → units (c ∷ []) ≡ units_of c
+one : (c : Comp) → total_units (c ∷ []) ≡ units_of c
 one c = omega (arith, sum_by-cons units_of c [])
 
-two : (l c : Comp) → units (l ∷ c ∷ []) ≡ units_of l + units_of c
+two : (l c : Comp) → total_units (l ∷ c ∷ []) ≡ units_of l + units_of c
 two l c = omega (arith, sum_by-cons units_of l (c ∷ []), one c)
 
-total-joined : (l c : Comp) → units (joined l c) ≤ units_of l + units_of c
+total-joined : (l c : Comp) → total_units (joined l c) ≤ units_of l + units_of c
 total-joined (Ins p s) (Ins q u) = total_if (nat_le p q && nat_le q (p + length s)) _ _ _ (omega (arith, one (Ins p (put_at s (q - p) u)), length-put s (q - p) u)) (omega (arith, two (Ins p s) (Ins q u)))
 total-joined (Ins p s) (Del q u) = omega (arith, two (Ins p s) (Del q u))
 total-joined (Ins p s) (Com q u t) = omega (arith, two (Ins p s) (Com q u t))
@@ -36,12 +35,12 @@ total-joined (Del p s) (Del q u) = total_if (nat_le q p && nat_le p (q + length 
 total-joined (Del p s) (Com q u t) = omega (arith, two (Del p s) (Com q u t))
 total-joined (Com p s t) c = omega (arith, two (Com p s t) c)
 
-total-behind : (cs : List Comp) (c : Comp) → units (behind cs c) ≤ units cs + units_of c
+total-behind : (cs : List Comp) (c : Comp) → total_units (behind cs c) ≤ total_units cs + units_of c
 total-behind [] c = omega (arith, one c)
 total-behind (l ∷ []) c = omega (arith, total-joined l c, one l)
 total-behind (l ∷ m ∷ ls) c = omega (arith, total-behind (m ∷ ls) c, sum_by-cons units_of l (behind (m ∷ ls) c), sum_by-cons units_of l (m ∷ ls))
 
-pub total-appended : (cs : List Comp) (c : Comp) → units (appended cs c) ≤ units cs + units_of c
+pub total-appended : (cs : List Comp) (c : Comp) → total_units (appended cs c) ≤ total_units cs + units_of c
 total-appended cs c = total_if (is_void c) cs (behind cs c) _ (omega arith) (total-behind cs c)
 
 -- the component of an edit has no more units than the edit

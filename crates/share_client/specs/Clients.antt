@@ -13,11 +13,6 @@ pub record Numbered : Type 0 where
   pub client : ℕ
   pub now : Client
 
--- the user of a client, none before it joins
-abbrev pub user_in : Option (List ℕ) → List ℕ
-user_in (Some user) = user
-user_in None = []
-
 -- what stands for a client that was joined once
 abbrev pub unless_away : {X : Type 0} → ClientState → X → Option X
 unless_away Away x = None

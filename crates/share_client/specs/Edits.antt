@@ -5,8 +5,8 @@ use Rattle.ot_op.specs.declared.comp.Comp.TheVariants as comp
 use Rattle.ot_op.specs.Compose.{appended}
 use Rattle.journal_rules.specs.Client.{Client}
 use Rattle.turn_rules.specs.Clients.{is_joined}
-use Rattle.journal_rules.specs.Legal.{units}
 use Rattle.ot_op.specs.declared.limits.TheConstants.{MAX_COMPONENTS, MAX_OPERATION_UNITS}
+use Rattle.ot_op.specs.Operation.{total_units}
 use Rattle.share_client.specs.declared.edit.Edit.{Edit}
 use Rattle.share_client.specs.declared.edit.Edit.TheVariants.{Insert, Delete, Comment}
 use Rattle.share_client.specs.declared.edit.EditFault.{EditFault}
@@ -38,7 +38,7 @@ edit_comp text (Comment at len thread) = comp.Com at (take len (drop at text)) t
 
 -- the first refusal that holds
 abbrev pub full_fault : List Comp → Option EditFault
-full_fault pending = if nat_lt MAX_COMPONENTS (length pending) || nat_lt MAX_OPERATION_UNITS (units pending) then Some (Full (length pending) (units pending)) else None
+full_fault pending = if nat_lt MAX_COMPONENTS (length pending) || nat_lt MAX_OPERATION_UNITS (total_units pending) then Some (Full (length pending) (total_units pending)) else None
 
 abbrev pub edit_fault : Client → Edit → Option EditFault
 edit_fault c edit =

@@ -39,7 +39,8 @@ pub struct ShareClient {
 
 impl Model for ShareClient {
     ghost use Rattle.std.specs.Prelude.{◌≡◌};
-    ghost use Rattle.share_client.specs.Clients.{Numbered, unless_away, user_in};
+    ghost use Rattle.journal_rules.specs.Client.{user_in};
+    ghost use Rattle.share_client.specs.Clients.{Numbered, unless_away};
 
     ghost Value = { Numbered };
 

@@ -8,7 +8,7 @@ use Rattle.journal_rules.specs.Documents.{Item, Making, applied_list, base_in, i
 use Rattle.journal_rules.specs.Keeping.{kept, kept_by}
 use Rattle.journal_rules.specs.Legal.{IsAllowed, IsLegal}
 use Rattle.journal_rules.proofs.Legality.{allowed_next}
-use Rattle.journal_rules.proofs.Pushing.{applied_list-push, kept-push, makings-push}
+use Rattle.journal_rules.proofs.Pushing.{applied_list-push, kept-push, makings-push, makings_still}
 use Rattle.turn_rules.specs.Flushing.{IsPut}
 use Rattle.turn_rules.specs.Locking.{acquired}
 use Rattle.turn_rules.specs.Turns.{entry_by}
@@ -17,9 +17,6 @@ pub version_still : (d : ℕ) (h : List Entry) (e : Entry) → making_of e.act �
 version_still d h e makes items =
     ap₂ (λ (m : List Making) (l : List Item). base_in (slice_get m d) + length l) (makings-push h e ∙ ap (λ m. makings h ++ m) makes ∙ append-nil (makings h))
     (applied_list-push d h e ∙ ap (λ l. applied_list d h ++ l) items ∙ append-nil (applied_list d h))
-
-pub makings_still : (h : List Entry) (e : Entry) → making_of e.act ≡ [] → makings (h ++ e ∷ []) ≡ makings h
-makings_still h e makes = makings-push h e ∙ ap (λ m. makings h ++ m) makes ∙ append-nil (makings h)
 
 -- what was put makes and applies nothing
 pub record IsPutting (put : Act) : Type 0 where

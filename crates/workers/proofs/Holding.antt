@@ -3,6 +3,7 @@ use Rattle.std.proofs.Common.{◌≡◌, ◌≢◌, ℕ, ◌+◌, ◌==◌, zero
 use Rattle.std.specs.Prelude.{Option, Some, None, if◌then◌else◌}
 use Rattle.std.specs.List.{list_all}
 use Rattle.std.proofs.lemmas.List.Folds.{list_all-append, list_any-append}
+use Rattle.std.proofs.lemmas.Bool.{not-true, and_parts}
 use Rattle.expiring_lock.specs.declared.lock.TheConstants.{LOCK_LIFE}
 use Rattle.journal_entries.specs.declared.act.Act.{Act}
 use Rattle.journal_entries.specs.declared.act.Act.TheVariants.{Acquired}
@@ -18,7 +19,6 @@ use Rattle.run_rules.specs.Threads.{DrainsOn, is_by}
 use Rattle.workers.specs.Draining.{DrainsOf}
 use Rattle.workers.specs.Seats.{HoldsNoLock}
 use Rattle.workers.specs.Sweeping.{acquires, is_acquiring, IsSweptBy}
-use Rattle.workers.proofs.Standing.{and_left, and_right, not_so}
 
 -- a journal has grown, and a seat acquired this document no more
 abbrev pub Quiet : ℕ → ℕ → List Entry → List Entry → Type 0
@@ -67,8 +67,8 @@ module _ (seat d : ℕ) where
   quiet_map [] all = refl
   quiet_map (x ∷ xs) all =
       ap₂ (λ (p q : Bool). p && q)
-      (ap (λ (b : Bool). not (b && (seat == seat))) (not_so (is_acquiring d x) (and_left (not (is_acquiring d x)) (list_all (λ x. not (is_acquiring d x)) xs) all)))
-      (quiet_map xs (and_right (not (is_acquiring d x)) (list_all (λ x. not (is_acquiring d x)) xs) all))
+      (ap (λ (b : Bool). not (b && (seat == seat))) (not-true (is_acquiring d x) (and_parts (not (is_acquiring d x)) (list_all (λ x. not (is_acquiring d x)) xs) all).0))
+      (quiet_map xs (and_parts (not (is_acquiring d x)) (list_all (λ x. not (is_acquiring d x)) xs) all).1)
 
   quiet_turn : (Makes : List Entry → List Entry → Type 0) → ((look made : List Entry) → Makes look made → Quiet seat d look (look ++ made)) → (left last : List Entry) → Turn (Among (is_by seat)) Makes left last → Quiet seat d left last
   quiet_turn Makes made left last t =
@@ -137,7 +137,7 @@ module _ (seat d : ℕ) where
   before_it by (Acquired doc token until) n a none is last = go (doc == d) none last
     where
       go : (b : Bool) → not (b && by == seat) ≡ true → (if b then Some (record { seat = by; doc = doc; token = token; until = until }) else n) ≡ Some a → n ≡ Some a
-      go true none last = absurd (true≢false (sym (eq-eqb by seat (ap seat_in last ∙ is)) ∙ not_so (by == seat) none))
+      go true none last = absurd (true≢false (sym (eq-eqb by seat (ap seat_in last ∙ is)) ∙ not-true (by == seat) none))
       go false none last = last
   before_it by _ n a none is last = last
 
@@ -151,8 +151,8 @@ module _ (seat d : ℕ) where
   held_behind : (a : Acquiring) (j more : List Entry) → list_all (λ e. not (acquires seat d e)) more ≡ true → a.seat ≡ seat → HeldBy d a (j ++ more) → HeldBy d a j
   held_behind a j [] all is h = subst (λ (k : List Entry). HeldBy d a k) (append-nil j) h
   held_behind a j (e ∷ es) all is h =
-      held_before a j e (and_left (not (acquires seat d e)) (list_all (λ e. not (acquires seat d e)) es) all) is
-      (held_behind a (j ++ e ∷ []) es (and_right (not (acquires seat d e)) (list_all (λ e. not (acquires seat d e)) es) all) is
+      held_before a j e (and_parts (not (acquires seat d e)) (list_all (λ e. not (acquires seat d e)) es) all).0 is
+      (held_behind a (j ++ e ∷ []) es (and_parts (not (acquires seat d e)) (list_all (λ e. not (acquires seat d e)) es) all).1 is
       (subst (λ (k : List Entry). HeldBy d a k) (sym (append_assoc j (e ∷ []) es)) h))
 
   pub held_back : (a : Acquiring) (j k : List Entry) → Quiet seat d j k → a.seat ≡ seat → HeldBy d a k → HeldBy d a j

@@ -2,7 +2,8 @@
 use Rattle.std.proofs.Common.{◌≡◌, ◌≢◌, ℕ, zero, suc, List, [], ◌∷◌, ◌++◌, Bool, true, false, true≢false, not, ◌||◌, refl, sym, ap, ap₂, ◌∙◌, subst, arith, eqb, append-nil, append_assoc, All}
 use Rattle.std.specs.Prelude.{Option, Some, None, ◌&&◌, ◌==◌, if◌then◌else◌}
 use Rattle.std.specs.List.{list_all}
-use Rattle.std.proofs.lemmas.Bool.{eqb-true, eq-eqb}
+use Rattle.std.proofs.lemmas.Bool.{eqb-true, eq-eqb, not-true, and_parts}
+use Rattle.journal_laws.proofs.Joins.{is_in-append}
 use Rattle.dup_check.specs.declared.snapshot.Snapshot.{Snapshot}
 use Rattle.expiring_lock.specs.declared.refusal.Stale.{Stale}
 use Rattle.expiring_lock.specs.declared.refusal.Stale.TheVariants.{Other, Ended}
@@ -21,20 +22,7 @@ use Rattle.run_rules.specs.Threads.{is_by}
 use Rattle.book.specs.Looking.{IsNoCommit, IsOf}
 use Rattle.book.proofs.Acquirings.{IsKnown, known_more, known_on, known_same, last_known}
 use Rattle.book.proofs.Fenced.{stays}
-use Rattle.book.proofs.Owed.{is_in-append}
 use Rattle.workers.specs.Taking.{IsTakenUp}
-
-pub and_left : (a b : Bool) → (a && b) ≡ true → a ≡ true
-and_left true b is = refl
-and_left false b is = is
-
-pub and_right : (a b : Bool) → (a && b) ≡ true → b ≡ true
-and_right true b is = is
-and_right false b is = absurd (true≢false (sym is))
-
-pub not_so : (b : Bool) → not b ≡ true → b ≡ false
-not_so true is = sym is
-not_so false is = refl
 
 -- a token is let go by the seat that acquired it alone
 module _ (seat token : ℕ) (a : Acquiring) (token_is : a.token ≡ token) (seat_is : a.seat ≡ seat) where
@@ -53,19 +41,19 @@ module _ (seat token : ℕ) (a : Acquiring) (token_is : a.token ≡ token) (seat
   unreleased_behind [] h legal known others was = ap (λ k. is_in token (released k)) (append-nil h) ∙ was
   unreleased_behind (e ∷ es) h legal known others was =
       let again : (h ++ e ∷ []) ++ es ≡ h ++ e ∷ es = append_assoc h (e ∷ []) es in
-      let other = not_so (e.seat == seat) (and_left (not (is_by seat e)) (list_all (λ e. not (is_by seat e)) es) others) in
+      let other = not-true (e.seat == seat) (and_parts (not (is_by seat e)) (list_all (λ e. not (is_by seat e)) es) others).0 in
       let here : is_in token (released (h ++ e ∷ [])) ≡ false =
       ap (is_in token) (released-push h e) ∙ is_in-append token (released h) (released_by e.act)
       ∙ ap₂ (λ x y. x || y) was (not_released_by h e.seat e.act (legal_front h (e ∷ es) legal) known (allowed_next h e es legal) other) in
       ap (λ k. is_in token (released k)) (sym again)
       ∙ unreleased_behind es (h ++ e ∷ []) (subst IsLegal (sym again) legal) (known_on a h e known)
-      (and_right (not (is_by seat e)) (list_all (λ e. not (is_by seat e)) es) others) here
+      (and_parts (not (is_by seat e)) (list_all (λ e. not (is_by seat e)) es) others).1 here
 
 -- others commit nothing of a look
 no_commits : (look : Snapshot) (more : List Entry) → list_all (λ e. not (is_by look.seat e)) more ≡ true → All (IsNoCommit look) more
 no_commits look [] others k d h = absurd (omega arith)
-no_commits look (e ∷ es) others zero d h = λ same. absurd (true≢false (sym (eq-eqb e.seat look.seat same) ∙ not_so (e.seat == look.seat) (and_left (not (is_by look.seat e)) (list_all (λ e. not (is_by look.seat e)) es) others)))
-no_commits look (e ∷ es) others (suc k) d h = no_commits look es (and_right (not (is_by look.seat e)) (list_all (λ e. not (is_by look.seat e)) es) others) k d (omega arith)
+no_commits look (e ∷ es) others zero d h = λ same. absurd (true≢false (sym (eq-eqb e.seat look.seat same) ∙ not-true (e.seat == look.seat) (and_parts (not (is_by look.seat e)) (list_all (λ e. not (is_by look.seat e)) es) others).0))
+no_commits look (e ∷ es) others (suc k) d h = no_commits look es (and_parts (not (is_by look.seat e)) (list_all (λ e. not (is_by look.seat e)) es) others).1 k d (omega arith)
 
 module _ (look : Snapshot) (j : List Entry) (of : IsOf look j) (legal : IsLegal j) where
   abbrev pub acquiring : Acquiring

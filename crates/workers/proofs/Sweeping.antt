@@ -1,7 +1,7 @@
 -- What stays as a journal grows, and what is left where draining ended.
 use Rattle.std.proofs.Common.{◌≡◌, ◌≢◌, ℕ, ◌+◌, ◌<◌, ◌==◌, zero, suc, List, [], ◌∷◌, ◌++◌, length, Bool, true, false, not, ◌&&◌, ◌||◌, refl, sym, ap, ◌∙◌, subst, inl, inr, arith, append_assoc, append-nil, length-append, ltb-true, ltb-false, true≢false}
 use Rattle.std.specs.Prelude.{Option, Some, None, if◌then◌else◌, option_map, nat_lt}
-use Rattle.std.proofs.lemmas.Bool.{lt-ltb}
+use Rattle.std.proofs.lemmas.Bool.{lt-ltb, not-true}
 use Rattle.std.proofs.lemmas.List.Folds.{list_any-append}
 use Rattle.expiring_lock.specs.declared.refusal.Busy.{Busy}
 use Rattle.journal_entries.specs.declared.act.Entry.{Entry}
@@ -20,7 +20,6 @@ use Rattle.workers.specs.Draining.{DrainsOf, IsWhyNoMore}
 use Rattle.workers.specs.Seats.{HoldsNoLock}
 use Rattle.workers.specs.Sweeping.{IsEachClosed, IsHeldByOther, IsSweptBy}
 use Rattle.workers.proofs.Holding.{quiet_of, quiet_one, swept_quiet}
-use Rattle.workers.proofs.Standing.{not_so}
 
 abbrev is_found : {X : Type 0} → Option X → Bool
 is_found (Some x) = true
@@ -68,7 +67,7 @@ held_by_other : (seat doc : ℕ) (j : List Entry) (b : Busy) → HoldsNoLock sea
     → (if h && not x then option_map busy_by l else None) ≡ Some b → IsHeldByOther seat doc j
 held_by_other seat doc j b none (Some a) true false last held expired is =
     let stands : not (is_in a.token (released j)) ≡ true = ap (λ (o : Option Acquiring). is_held_in o (released j)) (sym last) ∙ held in
-    let h : HeldBy doc a j = record { last = last; standing = not_so (is_in a.token (released j)) stands } in record {
+    let h : HeldBy doc a j = record { last = last; standing = not-true (is_in a.token (released j)) stands } in record {
       acquiring = a;
       held = h;
       unexpired = expired;

@@ -1,5 +1,5 @@
 use Rattle.std.proofs.Common.{◌≡◌, ◌+◌, drop}
-use Rattle.ot_json.specs.Grammar.{total_units}
+use Rattle.ot_op.specs.Operation.{total_units}
 use Rattle.ot_json.proofs.read.count_units.Given as goal
 
 -- the units so far and those of the rest are all

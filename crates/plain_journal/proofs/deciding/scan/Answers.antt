@@ -1,7 +1,8 @@
 use Rattle.std.proofs.Common.{◌≡◌, true, false, sym, ◌∙◌, Some, None}
+use Rattle.journal_rules.proofs.Waits.{source_sought}
 use Rattle.ot_transform.specs.Crossing.{crossed}
 use Rattle.journal_rules.specs.Documents.{is_in}
-use Rattle.plain_journal.proofs.Scanning.{source_sought, fits_first, fits_next, scan_twin, scan_stuck, scan_goes_on}
+use Rattle.plain_journal.proofs.Scanning.{fits_first, fits_next, scan_twin, scan_stuck, scan_goes_on}
 use Rattle.plain_journal.proofs.deciding.scan.Goals as goal
 
 pub cross-requires : goal.cross-requires
