@@ -1,5 +1,5 @@
 -- What operations are.
-use Rattle.std.specs.Prelude.{◌≡◌, ℕ, Bool, false, List, length, ◌==◌}
+use Rattle.std.specs.Prelude.{◌≡◌, ℕ, Bool, false, List, length, ◌==◌, sum_by}
 use Rattle.std.specs.List.{All}
 use Rattle.ot_op.specs.declared.comp.Comp.{Comp}
 use Rattle.ot_op.specs.declared.comp.Comp.TheVariants.{Ins, Del, Com}
