@@ -1,6 +1,7 @@
 //! Whether a client may join, edit, send, get and leave.
 
 ghost use Rattle.std.specs.Prelude.{◌≡◌, ◌↔◌, ◌⊎◌, ◌<◌, ◌≤◌, ◌+◌, ◌-◌, ◌^◌, length, IsTrue, IfOk, Some};
+ghost use Rattle.ot_op.specs.Operation.{total_units};
 ghost use Rattle.journal_rules.specs.declared.state.ClientState.TheVariants as state;
 ghost use Rattle.journal_rules.specs.Client as clients;
 ghost use Rattle.journal_rules.specs.Legal as rules;
@@ -139,7 +140,7 @@ fn appended(alloc: Global, op: &Op, comp: &Comp) -> Result<Op, AllocError>
 }
 
 fn is_within_limits(op: &Op) -> bool
-    ensures { IsTrue result ↔ ((length op.now ≤ most_components) × (rules.units op.now ≤ most_units)) }
+    ensures { IsTrue result ↔ ((length op.now ≤ most_components) × (total_units op.now ≤ most_units)) }
 {
     op.comps().len() as u64 <= MAX_COMPONENTS && units(op.comps()) <= MAX_OPERATION_UNITS
 }

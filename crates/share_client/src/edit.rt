@@ -3,9 +3,8 @@
 ghost use Rattle.std.specs.Prelude.{◌≡◌, ◌≢◌, ◌≤◌, ◌<◌, ◌+◌, ◌-◌, ◌^◌, length, min, sum_by, take, drop, unwrap_or, false, None, Some, IfErr, IfOk, OnOk, OnErr};
 ghost use Rattle.ot_op.specs.Apply.{applied};
 ghost use Rattle.ot_op.specs.Compose.{appended};
-ghost use Rattle.ot_op.specs.Operation.{is_void, units_of};
+ghost use Rattle.ot_op.specs.Operation.{is_void, total_units, units_of};
 ghost use Rattle.journal_rules.specs.Client.{edited_by};
-ghost use Rattle.journal_rules.specs.Legal as rules;
 ghost use Rattle.share_client.specs.declared.edit.EditFault.TheVariants.{Memory};
 ghost use Rattle.share_client.specs.Edits.{IsEdit, edit_comp, edit_end, edit_fault, edit_length, full_fault, IsRefusal};
 
@@ -172,7 +171,7 @@ impl ShareClient {
     /// A refusal changes nothing.
     pub fn edit(&mut self, edit: &Edit) -> Result<Comp, EditFault>
         requires edit { IsEdit edit.now }
-        requires small { rules.units self.old.now.pending + edit_length edit.now < 2 ^ 64 }
+        requires small { total_units self.old.now.pending + edit_length edit.now < 2 ^ 64 }
         ensures ok { IfOk result (λ comp. (comp ≡ edit_comp self.old.now.text edit.now) × (edit_fault self.old.now edit.now ≡ None) × (self.new ≡ record self.old { now = edited_by self.old.now comp })) }
         ensures refused { IfErr result (λ fault. IsRefusal self.old.now edit.now fault) }
         ensures kept { OnErr result (self.new ≡ self.old) }

@@ -1,7 +1,7 @@
 //! Clients that edit, send and are told, at values that were worked out by hand.
 
 ghost use Rattle.std.specs.Prelude.{◌≡◌, ◌+◌, ◌<◌, ◌^◌, IsTrue};
-ghost use Rattle.journal_rules.specs.Legal as rules;
+ghost use Rattle.ot_op.specs.Operation.{total_units};
 ghost use Rattle.journal_sizes.specs.Sizes.{IsAtEase, IsSized, IsSizedMsg};
 ghost use Rattle.share_client.specs.Edits.{IsEdit, edit_length};
 
@@ -308,7 +308,7 @@ const FEW: usize = 100_000;
 
 fn is_small(client: &ShareClient, edit: &Edit) -> bool
     ensures edit { IsTrue result → IsEdit edit.now }
-    ensures small { IsTrue result → rules.units client.now.now.pending + edit_length edit.now < 2 ^ 64 }
+    ensures small { IsTrue result → total_units client.now.now.pending + edit_length edit.now < 2 ^ 64 }
 {
     let few = units(client.pending().comps()) < FEW as u64;
     match edit {
