@@ -1,11 +1,11 @@
--- Entries by seat 0 that make no document, leave the clock, let nobody join or close, and commit under no early token.
+-- Entries by seat 0 that make no document, leave the clock, hand nothing out, let nobody join or close, and commit under no early token.
 use Rattle.std.proofs.Common.{◌≡◌, ◌≢◌, ℕ, zero, suc, ◌+◌, ◌≤◌, ◌<◌, List, [], ◌∷◌, ◌++◌, length, Bool, true, false, true≢false, ◌||◌, refl, sym, ap, ◌∙◌, subst, inl, inr, arith, append_assoc, append-nil, length-append, ne_eqb, All}
 use Rattle.std.specs.Prelude.{Option, Some, None, ◌==◌, nat_le, nat_lt, if◌then◌else◌, map}
 use Rattle.std.proofs.lemmas.Bool.{leb-true}
 use Rattle.std.proofs.lemmas.Bool.Decides.{nat_tests}
 use Rattle.std.proofs.lemmas.List.Elements.{All-append, All-nil, All-cons, All-weaker}
 use Rattle.journal_entries.specs.declared.act.Act.{Act}
-use Rattle.journal_entries.specs.declared.act.Act.TheVariants.{Made, Ticked, Joined as JoinedAct, Edited, Sent, Got, Left as LeftAct, Acquired, Loaded, LoadFailed, LoadDiffers, Committed, Released, Unloaded, Closed}
+use Rattle.journal_entries.specs.declared.act.Act.TheVariants.{Made, Ticked, Joined as JoinedAct, Edited, Sent, Got, Left as LeftAct, Acquired, Loaded, LoadFailed, LoadDiffers, Committed, Released, Unloaded, Handed, Closed}
 use Rattle.journal_entries.specs.declared.act.Entry.{Entry}
 use Rattle.journal_rules.specs.Documents.{is_in, makings, making_of}
 use Rattle.journal_rules.specs.Keeping.{cached, cached_by}
@@ -109,6 +109,7 @@ later from low (Got session brief) le e = e
 later from low (LeftAct session) le e = e
 later from low (Committed doc token ticket outcome) le e = let is : from ≤ token = leb-true from token e in grind (arith, nat_tests)
 later from low (Unloaded doc token) le e = e
+later from low (Handed project count) le e = e
 later from low (Closed driver) le e = e
 later from low _ le e = refl
 

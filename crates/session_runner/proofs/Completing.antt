@@ -1,6 +1,7 @@
 -- What a run comes to, by what was taken of its input.
 use Rattle.std.proofs.Common.{◌≡◌, ◌≢◌, ◌⊎◌, inl, inr, ℕ, ◌<◌, ◌≤◌, ◌&&◌, ◌||◌, Bool, true, false, true≢false, List, [], ◌∷◌, ◌++◌, length, take, String, refl, sym, ap, ◌∙◌, subst, arith, eqb, append-nil, length-append}
 use Rattle.std.specs.Prelude.{Option, Some, None, is_none, ⊤}
+use Rattle.std.proofs.lemmas.Bool.{and_parts, or_right}
 use Rattle.std.specs.declared.alloc.Global.{Global}
 use Rattle.std.specs.Io.KnownBytes.{Consumes, Appends, IsAtEnd, Keeps}
 use Rattle.source_sink.specs.Causes.{Rose}
@@ -17,8 +18,8 @@ use Rattle.book.specs.Failing.{has_failure, is_failure}
 use Rattle.session_runner.specs.declared.ending.Ending.{Ending}
 use Rattle.session_runner.specs.declared.ending.Ending.TheVariants as ending
 use Rattle.session_runner.specs.declared.ending.LineFault.{LineFault}
-use Rattle.session_runner.specs.Report.{report_of}
-use Rattle.session_runner.specs.Ending.{AreRun, CanBeTold, Explains, GivesBack, HasKeeper, IsKeptIn, IsPart, IsTold, IsTextTold, IsWriting, WasLong, WasWhole, line_fault, status_by, status_of, text_of}
+use Rattle.session_runner.specs.Report.{names_of, report_of}
+use Rattle.session_runner.specs.Ending.{AreRun, CanBeTold, Explains, GivesBack, HasKeeper, IsKeptIn, IsPart, IsRun, IsTold, IsTextTold, IsWriting, WasLong, WasWhole, line_fault, status_by, status_of, text_of}
 use Rattle.session_runner.specs.Passing.{MayFail, MayFailToKeep, Passed, PassedKeeper, passed_keeper}
 use Rattle.session_runner.specs.Run.{Answers, Completes, IsCutShort, IsDone, IsEither, IsEitherRead, IsQuietRun, IsToWrite, IsUnflushed, IsWanting}
 
@@ -61,25 +62,17 @@ neither own zero_not seven_not (inl is) = zero_not is
 neither own zero_not seven_not (inr is) = seven_not is
 
 -- a flush that failed is a failure of the keeper
-and_right : (p q : Bool) → (p && q) ≡ true → q ≡ true
-and_right true q e = e
-and_right false q e = absurd (true≢false (sym e))
-
 flush_fails : (act : Act) → is_flush_failed act ≡ true → is_failure act ≡ true
 flush_fails (FlushFailed doc token from to) e = refl
 flush_fails _ e = absurd (true≢false (sym e))
-
-or_true : (p q : Bool) → q ≡ true → (p || q) ≡ true
-or_true true q e = refl
-or_true false q e = e
 
 failed_at_end : (j : List Entry) → has_flush_failed_at_end j ≡ true → has_failure j ≡ true
 failed_at_end [] e = absurd (true≢false (sym e))
 failed_at_end (x ∷ xs) e = by (λ rest. failed_at_end xs rest) (is_flush_failed_at_end x) refl e
   where
     by : (has_flush_failed_at_end xs ≡ true → has_failure xs ≡ true) → (b : Bool) → is_flush_failed_at_end x ≡ b → (b || has_flush_failed_at_end xs) ≡ true → (is_failure x.act || has_failure xs) ≡ true
-    by later true is e = ap (λ b. b || has_failure xs) (flush_fails x.act (and_right (eqb x.seat 0) (is_flush_failed x.act) (and_right (is_none x.line) (eqb x.seat 0 && is_flush_failed x.act) is)))
-    by later false is e = or_true (is_failure x.act) (has_failure xs) (later e)
+    by later true is e = ap (λ b. b || has_failure xs) (flush_fails x.act (and_parts (eqb x.seat 0) (is_flush_failed x.act) (and_parts (is_none x.line) (eqb x.seat 0 && is_flush_failed x.act) is).1).1)
+    by later false is e = or_right (is_failure x.act) (has_failure xs) (later e)
 
 -- ---- what becomes of the keeper
 abbrev pub Over : {K : Type 0} → PassedKeeper → Ending K → Type 0
@@ -308,36 +301,63 @@ module _ (words : List (String Global)) (input out : Passed) (keeper : PassedKee
   other_words (ending.Done book) why t other = absurd (other why.0)
 
   -- ---- statuses 0 and 7
+  -- a run was done, its report was written, and the status is that of its journal
+  record WasDone : Type 0 where
+    words_are : AreRun words
+    bytes : List ℕ
+    journal : List Entry
+    whole : WasWhole input bytes
+    run : IsRun bytes journal
+    kept : IsKeptIn keeper journal
+    wrote : Appends out.before out.after (report_of (names_of bytes) journal)
+    status_is : status ≡ status_by (has_flush_failed_at_end journal)
+
+  module _ (own : ℕ) (is : status ≡ own) (either : (own ≡ 0) ⊎ (own ≡ 7)) where
+    clash : (n : ℕ) → n ≢ 0 → n ≢ 7 → status ≡ n → ⊥
+    clash n zero_not seven_not told_so = by either
+      where
+        by : (own ≡ 0) ⊎ (own ≡ 7) → ⊥
+        by (inl zero_is) = zero_not (sym told_so ∙ is ∙ zero_is)
+        by (inr seven) = seven_not (sym told_so ∙ is ∙ seven)
+
+    was_done : {K : Type 0} → (end : Ending K) → Explains words input end → Over keeper end → IsTold out end status → WasDone
+    was_done end why kept (inr (inl t)) = absurd (clash 6 (λ e. omega (arith, e)) (λ e. omega (arith, e)) t.0)
+    was_done end why kept (inr (inr t)) = absurd (clash 4 (λ e. omega (arith, e)) (λ e. omega (arith, e)) t.0)
+    was_done (ending.Words back) why kept (inl t) = absurd (clash 2 (λ e. omega (arith, e)) (λ e. omega (arith, e)) t.0)
+    was_done (ending.Read back) why kept (inl t) = absurd (clash 5 (λ e. omega (arith, e)) (λ e. omega (arith, e)) t.0)
+    was_done (ending.Long back) why kept (inl t) = absurd (clash 8 (λ e. omega (arith, e)) (λ e. omega (arith, e)) t.0)
+    was_done (ending.Memory back) why kept (inl t) = absurd (clash 4 (λ e. omega (arith, e)) (λ e. omega (arith, e)) t.0)
+    was_done (ending.Script fault back) why kept (inl t) = absurd (clash 3 (λ e. omega (arith, e)) (λ e. omega (arith, e)) t.0)
+    was_done (ending.Done run) why kept (inl t) = record {
+      words_are = why.0;
+      bytes = why.1.0;
+      journal = run.book.journal;
+      whole = why.1.1;
+      run = why.1.2;
+      kept = kept;
+      wrote = subst (λ n. Appends out.before out.after (report_of n run.book.journal)) why.1.3.names_are t.1;
+      status_is = t.0;
+    }
+
   pub done : {K : Type 0} → (end : Ending K) → Explains words input end → Over keeper end → IsTold out end status → status ≡ 0 → IsDone words input out keeper
-  done end why kept (inr (inl t)) zero_is = let six = t.0 in absurd (omega (arith, six, zero_is))
-  done end why kept (inr (inr t)) zero_is = let four = t.0 in absurd (omega (arith, four, zero_is))
-  done (ending.Words back) why kept (inl t) zero_is = let own = t.0 in absurd (omega (arith, own, zero_is))
-  done (ending.Read back) why kept (inl t) zero_is = let own = t.0 in absurd (omega (arith, own, zero_is))
-  done (ending.Long back) why kept (inl t) zero_is = let own = t.0 in absurd (omega (arith, own, zero_is))
-  done (ending.Memory back) why kept (inl t) zero_is = let own = t.0 in absurd (omega (arith, own, zero_is))
-  done (ending.Script fault back) why kept (inl t) zero_is = let own = t.0 in absurd (omega (arith, own, zero_is))
-  done (ending.Done run) why kept (inl t) zero_is = by (run_status (has_flush_failed_at_end run.book.journal) status t.0)
+  done end why kept told_so zero_is = by (was_done 0 zero_is (inl refl) end why kept told_so)
     where
-      by : ((status ≡ 0) × (has_flush_failed_at_end run.book.journal ≡ false)) ⊎ ((status ≡ 7) × (has_flush_failed_at_end run.book.journal ≡ true)) → IsDone words input out keeper
-      by (inl x) =
-          let r = why.1.2 in
-          (why.0, (why.1.0, run.book.journal, why.1.1, r, (follows_kept r.script.lines r.script.sessions run.book.journal r.legal r.follows).0 x.1, kept, subst (λ n. Appends out.before out.after (report_of n run.book.journal)) why.1.3.names_are t.1))
-      by (inr x) = let seven = x.0 in absurd (omega (arith, seven, zero_is))
+      by : WasDone → IsDone words input out keeper
+      by d = cases (run_status (has_flush_failed_at_end d.journal) status d.status_is)
+        where
+          cases : ((status ≡ 0) × (has_flush_failed_at_end d.journal ≡ false)) ⊎ ((status ≡ 7) × (has_flush_failed_at_end d.journal ≡ true)) → IsDone words input out keeper
+          cases (inl x) = (d.words_are, (d.bytes, d.journal, d.whole, d.run, (follows_kept d.run.script.lines d.run.script.sessions d.journal d.run.legal d.run.follows).0 x.1, d.kept, d.wrote))
+          cases (inr x) = let seven = x.0 in absurd (omega (arith, seven, zero_is))
 
   pub unflushed : {K : Type 0} → (end : Ending K) → Explains words input end → Over keeper end → IsTold out end status → status ≡ 7 → IsUnflushed words input out keeper
-  unflushed end why kept (inr (inl t)) seven = let six = t.0 in absurd (omega (arith, six, seven))
-  unflushed end why kept (inr (inr t)) seven = let four = t.0 in absurd (omega (arith, four, seven))
-  unflushed (ending.Words back) why kept (inl t) seven = let own = t.0 in absurd (omega (arith, own, seven))
-  unflushed (ending.Read back) why kept (inl t) seven = let own = t.0 in absurd (omega (arith, own, seven))
-  unflushed (ending.Long back) why kept (inl t) seven = let own = t.0 in absurd (omega (arith, own, seven))
-  unflushed (ending.Memory back) why kept (inl t) seven = let own = t.0 in absurd (omega (arith, own, seven))
-  unflushed (ending.Script fault back) why kept (inl t) seven = let own = t.0 in absurd (omega (arith, own, seven))
-  unflushed (ending.Done run) why kept (inl t) seven = by (run_status (has_flush_failed_at_end run.book.journal) status t.0)
+  unflushed end why kept told_so seven = by (was_done 7 seven (inr refl) end why kept told_so)
     where
-      by : ((status ≡ 0) × (has_flush_failed_at_end run.book.journal ≡ false)) ⊎ ((status ≡ 7) × (has_flush_failed_at_end run.book.journal ≡ true)) → IsUnflushed words input out keeper
-      by (inl x) = let zero_is = x.0 in absurd (omega (arith, zero_is, seven))
-      by (inr x) =
-          (why.0, kept.causes (failed_at_end run.book.journal x.1), (why.1.0, run.book.journal, why.1.1, why.1.2, x.1, kept, subst (λ n. Appends out.before out.after (report_of n run.book.journal)) why.1.3.names_are t.1))
+      by : WasDone → IsUnflushed words input out keeper
+      by d = cases (run_status (has_flush_failed_at_end d.journal) status d.status_is)
+        where
+          cases : ((status ≡ 0) × (has_flush_failed_at_end d.journal ≡ false)) ⊎ ((status ≡ 7) × (has_flush_failed_at_end d.journal ≡ true)) → IsUnflushed words input out keeper
+          cases (inl x) = let zero_is = x.0 in absurd (omega (arith, zero_is, seven))
+          cases (inr x) = (d.words_are, d.kept.causes (failed_at_end d.journal x.1), (d.bytes, d.journal, d.whole, d.run, x.1, d.kept, d.wrote))
 
 -- ---- what telling asks
 pub can_be_told : {K : Type 0} → (words : List (String Global)) (input : Passed) (end : Ending K) → Explains words input end → CanBeTold end
@@ -346,4 +366,4 @@ can_be_told words input (ending.Read keeper) why = tt
 can_be_told words input (ending.Long keeper) why = tt
 can_be_told words input (ending.Memory keeper) why = tt
 can_be_told words input (ending.Script fault keeper) why = tt
-can_be_told words input (ending.Done run) why = let ready = why.1.3 in (ready.clients, ready.many, ready.few)
+can_be_told words input (ending.Done run) why = let ready = why.1.3 in (ready.clients, ready.many, ready.few, ready.handed)

@@ -1,9 +1,10 @@
 -- The lines of a script that was read fit a journal.
-use Rattle.std.proofs.Common.{◌≡◌, ◌⊎◌, inl, inr, ℕ, ◌+◌, ◌<◌, ◌≤◌, List, [], ◌∷◌, ◌++◌, Bool, true, false, not, cond, ◌||◌, refl, sym, ap, ◌∙◌, subst, arith, length, append-nil, append_assoc}
+use Rattle.std.proofs.Common.{◌≡◌, ℕ, ◌+◌, ◌<◌, ◌≤◌, List, [], ◌∷◌, ◌++◌, Bool, true, false, true≢false, not, ◌||◌, refl, sym, ap, ◌∙◌, subst, arith, length, append-nil, append_assoc}
 use Rattle.std.specs.Prelude.{Option, Some, None, Result, Ok, Err, IfOk, ◌&&◌, nat_lt, map, option_map, position, sum_by, if◌then◌else◌}
-use Rattle.std.specs.List.{list_any, list_all, position_or_len}
-use Rattle.std.proofs.lemmas.Bool.{cases_lt, ltb-true, lt-ltb, not-true, and_parts}
+use Rattle.std.specs.List.{list_any, list_all}
+use Rattle.std.proofs.lemmas.Bool.{ltb-true, not-true, and_parts, or_parts}
 use Rattle.std.proofs.lemmas.List.{length-map}
+use Rattle.project_histories.proofs.Lists.{none_passes}
 use Rattle.ot_op.specs.declared.comp.Comp.{Comp}
 use Rattle.ot_op.specs.declared.fault.FormFault.{FormFault}
 use Rattle.ot_json.specs.Grammar.{IsWithinLimits}
@@ -83,31 +84,22 @@ pub fits : (ls : List Line) → AreStanding [] ls → AreFit [] ls
 fits ls standing = fit_behind [] ls standing
 
 -- where none isn't built, all are
-places : (ls : List Line) → length ls ≤ position_or_len (λ l. not (is_built l)) ls → AreBuilt ls
-places [] le = tt
-places (l ∷ ls) le = by (λ rest. places ls rest) (is_built l) refl le
+all_built : (ls : List Line) → list_any (λ l. not (is_built l)) ls ≡ false → AreBuilt ls
+all_built [] none = tt
+all_built (l ∷ ls) none =
+    let parts = or_parts (not (is_built l)) (list_any (λ l. not (is_built l)) ls) none in
+    (built (is_built l) parts.0, all_built ls parts.1)
   where
-    by : (length ls ≤ position_or_len (λ l. not (is_built l)) ls → AreBuilt ls) → (b : Bool) → is_built l ≡ b → length (l ∷ ls) ≤ cond (not (not b)) (1 + position_or_len (λ l. not (is_built l)) ls) 0 → AreBuilt (l ∷ ls)
-    by all true is le = (is, all (omega (arith, le)))
-    by all false is le = absurd (omega (arith, le))
-
-none_found : (n k : ℕ) → (if nat_lt n k then Some n else None) ≡ None → k ≤ n
-none_found n k none = by (cases_lt n k)
-  where
-    by : (n < k) ⊎ (k ≤ n) → k ≤ n
-    by (inl lt) =
-        let found : Some n ≡ None = ap (λ b. if b then Some n else None) (sym (lt-ltb n k lt)) ∙ none in absurd (cc)
-    by (inr le) = le
-
-all_built : (ls : List Line) → position (λ l. not (is_built l)) ls ≡ None → AreBuilt ls
-all_built ls none = places ls (none_found (position_or_len (λ l. not (is_built l)) ls) (length ls) none)
+    built : (b : Bool) → not b ≡ false → b ≡ true
+    built true e = refl
+    built false e = absurd (true≢false e)
 
 -- where no line is named as unbuilt, all are built
 pub none_unbuilt : (ls : List Line) → first_unbuilt ls ≡ None → AreBuilt ls
 none_unbuilt ls none = by (position (λ l. not (is_built l)) ls) refl none
   where
     by : (o : Option ℕ) → position (λ l. not (is_built l)) ls ≡ o → option_map (λ k. k + 1) o ≡ None → AreBuilt ls
-    by None is e = all_built ls is
+    by None is e = all_built ls (none_passes (λ l. not (is_built l)) ls is)
     by (Some k) is e = absurd (cc)
 
 -- ---- the clock

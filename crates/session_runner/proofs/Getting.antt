@@ -65,9 +65,6 @@ module _ (seat : ℕ) (line : Option ℕ) (was now : Numbered) (left last : Show
   gets_rest = let one = some_of (λ msg. last ≡ adds left seat line (Got now.client (brief_of msg) ∷ [])) o m is got in one ∙ ap (λ (b : Shown). with_journal left b.journal) (sym one)
 
 -- and none more
-pub not_there : {A : Type 0} (o : Option A) → is_some o ≡ false → o ≡ None
-not_there None none = refl
-not_there (Some x) none = absurd (true≢false none)
-
 pub gets_none : (line : Option ℕ) (c : ℕ) (j k : List Entry) (o : Option Msg) → is_some o ≡ false → o ≡ slice_get (mail c j) 0 → k ≡ j → Gets (entry_by 0 line) Alone c j k
-gets_none line c j k o none first same = (zero, (same, ap (mail c) same ∙ got_none (mail c j) (sym (not_there o none) ∙ first)))
+gets_none line c j k None none first same = (zero, (same, ap (mail c) same ∙ got_none (mail c j) first))
+gets_none line c j k (Some m) none first same = absurd (true≢false none)

@@ -8,12 +8,13 @@ pub mod Taking
 pub mod Holding
 pub mod Quiet
 pub mod Getting
+pub mod Catching
+pub mod Handing
 pub mod Owning
 pub mod Lines
 pub mod Resting
 pub mod Flushes
 pub mod Finishing
 pub mod Fitting
-pub mod Catching
 pub mod Rounding
 pub mod Completing

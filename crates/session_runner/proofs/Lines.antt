@@ -1,8 +1,10 @@
 -- What the lines that were done leave.
-use Rattle.std.proofs.Common.{◌≡◌, ◌≢◌, ◌⊎◌, ℕ, zero, suc, ◌+◌, ◌-◌, ◌≤◌, ◌<◌, List, [], ◌∷◌, ◌++◌, length, Bool, true, false, true≢false, ◌||◌, ◌&&◌, not, refl, sym, ap, ◌∙◌, subst, inl, inr, arith, append-nil, append_assoc, All}
+use Rattle.std.proofs.Common.{◌≡◌, ◌≢◌, ◌⊎◌, ℕ, zero, suc, ◌+◌, ◌-◌, ◌≤◌, ◌<◌, List, [], ◌∷◌, ◌++◌, length, take, Bool, true, false, true≢false, ◌||◌, ◌&&◌, not, refl, sym, ap, ◌∙◌, subst, inl, inr, arith, append-nil, append_assoc, All}
 use Rattle.std.specs.Prelude.{Option, Some, None, Result, Ok, Err, OnOk, IfOk, ◌==◌, is_some, map, slice_get, option_and_then, position, cond, nat_lt, if◌then◌else◌}
+use Rattle.std.specs.Global.{Vec}
+use Rattle.std.specs.Result.{is_ok}
 use Rattle.std.specs.List.{list_all, list_any, position_or_len}
-use Rattle.std.proofs.lemmas.Bool.{le-ltb}
+use Rattle.std.proofs.lemmas.Bool.{and_parts, le-ltb}
 use Rattle.std.proofs.lemmas.List.Elements.{All-append, All-nil, All-cons}
 use Rattle.ot_op.specs.declared.comp.Comp.{Comp}
 use Rattle.ot_op.specs.declared.fault.FormFault.{FormFault}
@@ -13,7 +15,8 @@ use Rattle.journal_entries.specs.declared.why.Why.{Why}
 use Rattle.journal_entries.specs.declared.why.Why.TheVariants.{NoDoc, Holding}
 use Rattle.journal_rules.specs.Documents.{Making, is_in, is_named, making_of, makings, number_in, number_of, waiting}
 use Rattle.journal_rules.specs.Keeping.{cached_by}
-use Rattle.journal_rules.specs.Legal.{closed}
+use Rattle.journal_rules.specs.History.{history}
+use Rattle.journal_rules.specs.Legal.{closed, is_project}
 use Rattle.journal_rules.specs.Locks.{clock, next_token, used_by}
 use Rattle.journal_rules.proofs.Pushing.{closed-push, clock-push, makings-push}
 use Rattle.ending_rules.specs.Rounds.{joins_below}
@@ -32,6 +35,8 @@ use Rattle.book.specs.declared.faults.Prepared.{Prepared}
 use Rattle.book.specs.declared.faults.RawUpdate.{RawUpdate}
 use Rattle.book.proofs.Going.{goes_rest}
 use Rattle.book.specs.Going.{GoesOn, with_journal}
+use Rattle.history_queue.specs.declared.item.Item.{Item}
+use Rattle.project_histories.specs.Handing.{items_of, shown_item}
 use Rattle.project_histories.proofs.Lists.{at_within}
 use Rattle.session_runner.specs.declared.driver.Driver.{Driver}
 use Rattle.session_runner.specs.Apart.{GoesApart, IsApart, IsBehind, is_apart}
@@ -43,18 +48,21 @@ use Rattle.share_client.specs.Clients.{Numbered}
 use Rattle.journal_rules.specs.Client.{away, client}
 use Rattle.journal_rules.proofs.Pushing.{client-none}
 use Rattle.session_runner.specs.Fitting.{makings_by}
+use Rattle.session_runner.specs.Handing.{items_handed}
 use Rattle.session_runner.specs.Holding.{AreHeld, IsDriver, kept, kept_in}
 use Rattle.session_runner.proofs.Apart.{same_clients, same_clock, same_closed, same_if, same_makings, wrote}
+use Rattle.session_runner.proofs.Handing.{apart_hands_none, handed_by-none, handed_by-push, hands, items_of_hand}
 use Rattle.session_runner.proofs.Holding.{behind_apart, behind_one}
 
 -- what holds where a call was done holds so
-pub on_ok : {T E A B : Type 0} (r : Result T E) → (A → B) → OnOk r A → OnOk r B
-on_ok (Ok x) f a = f a
-on_ok (Err e) f a = tt
-
 pub both_ok : {T E : Type 0} (A B : Type 0) (r : Result T E) → OnOk r A → OnOk r B → OnOk r (A × B)
 both_ok A B (Ok x) a b = (a, b)
 both_ok A B (Err e) a b = tt
+
+-- what a list had appended, where memory sufficed
+pub appended_ok : {T E A : Type 0} (r : Result T E) (xs old more : List A) → xs ≡ (if is_ok r then old ++ more else old) → OnOk r (xs ≡ old ++ more)
+appended_ok (Ok x) xs old more is = is
+appended_ok (Err e) xs old more is = tt
 
 -- ---- what a session keeps
 pub keeps_none : (holds : List (Option Prepared)) (session : ℕ) (b : Bool) → session < length holds → ((o : Option Prepared) → slice_get holds session ≡ Some o → b ≡ is_some o) → b ≡ false → slice_get holds session ≡ Some None
@@ -107,19 +115,25 @@ drains_named by session doc name first mid last stop named some drains is =
 
 -- ---- a book with one entry more
 module _ {K : Type 0} (driver : Driver K) (new : Shown) (line : Option ℕ) where
-  pub added : (act : Act) → is_of_none act ≡ true → ((d : ℕ) → cached_by d act true ≡ true) → ((t : ℕ) → is_in t (used_by act) ≡ false) → IsDriver driver → new ≡ adds driver.book 0 line (act ∷ []) → IsDriver (record driver { book = new })
-  added act of_none caches unused was is = record {
+  pub added : (act : Act) (handed : Vec Item) → is_of_none act ≡ true → ((d : ℕ) → cached_by d act true ≡ true) → ((t : ℕ) → is_in t (used_by act) ≡ false) → handed.items ≡ driver.handed.items ++ items_of driver.book.journal act
+      → IsDriver driver → new ≡ adds driver.book 0 line (act ∷ []) → IsDriver (record driver { book = new; handed = handed })
+  added act handed of_none caches unused hands was is = record {
     alone = ap (λ (b : Shown). b.drivers) is ∙ was.alone;
     held = behind_one driver.holds.items driver.book.journal new.journal (entry_by 0 line act) (ap (λ (b : Shown). b.journal) is) refl caches unused was.held;
     clients = subst (AreClientsOf driver.clients.items) (sym (ap (λ (b : Shown). b.journal) is)) (all_stay driver.clients.items driver.book.journal (driver.book.journal ++ entry_by 0 line act ∷ []) (one_stays driver.book.journal (entry_by 0 line act) of_none) was.clients);
     many = was.many;
+    handed = hands ∙ ap (λ xs. xs ++ items_of driver.book.journal act) was.handed ∙ sym (ap (λ (b : Shown). items_handed b.journal) is ∙ handed_by-push (λ e. true) driver.book.journal (entry_by 0 line act));
   }
 
+  -- where it hands nothing out
+  added_plainly : (act : Act) → is_of_none act ≡ true → ((d : ℕ) → cached_by d act true ≡ true) → ((t : ℕ) → is_in t (used_by act) ≡ false) → items_of driver.book.journal act ≡ [] → IsDriver driver → new ≡ adds driver.book 0 line (act ∷ []) → IsDriver (record driver { book = new })
+  added_plainly act of_none caches unused none = added act driver.handed of_none caches unused (sym (ap (λ xs. driver.handed.items ++ xs) none ∙ append-nil driver.handed.items))
+
   pub declined : (session : ℕ) (why : Why) → IsDriver driver → new ≡ adds driver.book 0 line (Declined session why ∷ []) → IsDriver (record driver { book = new })
-  declined session why = added (Declined session why) refl (λ d. refl) (λ t. refl)
+  declined session why = added_plainly (Declined session why) refl (λ d. refl) (λ t. refl) refl
 
   pub drained : new.drivers ≡ driver.book.drivers → GoesApart (next_token driver.book.journal) driver.book.journal new.journal → IsDriver driver → IsDriver (record driver { book = new })
-  drained same g was = record { alone = same ∙ was.alone; held = behind_apart driver.holds.items driver.book.journal new.journal g was.held; clients = all_stay driver.clients.items driver.book.journal new.journal (same_clients (next_token driver.book.journal) driver.book.journal new.journal g) was.clients; many = was.many }
+  drained same g was = record { alone = same ∙ was.alone; held = behind_apart driver.holds.items driver.book.journal new.journal g was.held; clients = all_stay driver.clients.items driver.book.journal new.journal (same_clients (next_token driver.book.journal) driver.book.journal new.journal g) was.clients; many = was.many; handed = was.handed ∙ sym (apart_hands_none (λ e. true) (next_token driver.book.journal) driver.book.journal new.journal g) }
 
 raw_caches : (op : Result (List Comp) FormFault) (now : ℕ) (u : RawUpdate) (d : ℕ) → cached_by d (raw_act_of op now u) true ≡ true
 raw_caches (Ok op) now u d = refl
@@ -133,18 +147,28 @@ raw_uses : (op : Result (List Comp) FormFault) (now : ℕ) (u : RawUpdate) (t : 
 raw_uses (Ok op) now u t = refl
 raw_uses (Err fault) now u t = refl
 
+raw_hands_none : (op : Result (List Comp) FormFault) (now : ℕ) (u : RawUpdate) (j : List Entry) → items_of j (raw_act_of op now u) ≡ []
+raw_hands_none (Ok op) now u j = refl
+raw_hands_none (Err fault) now u j = refl
+
 raw_apart : (op : Result (List Comp) FormFault) (now : ℕ) (u : RawUpdate) (from : ℕ) → is_apart from (raw_act_of op now u) ≡ true
 raw_apart (Ok op) now u from = refl
 raw_apart (Err fault) now u from = refl
 
 pub sent : {K : Type 0} (driver : Driver K) (new : Shown) (line : Option ℕ) (now : ℕ) (u : RawUpdate) → IsDriver driver → new ≡ adds driver.book 0 line (raw_act now u ∷ []) → IsDriver (record driver { book = new })
-sent driver new line now u = added driver new line (raw_act now u) (raw_of_none u.op now u) (raw_caches u.op now u) (raw_uses u.op now u)
+sent driver new line now u = added_plainly driver new line (raw_act now u) (raw_of_none u.op now u) (raw_caches u.op now u) (raw_uses u.op now u) (raw_hands_none u.op now u driver.book.journal)
 
 pub made : {K : Type 0} (driver : Driver K) (new : Shown) (line : Option ℕ) (doc : ℕ) (name project first : List ℕ) (base : ℕ) → IsDriver driver → new ≡ adds driver.book 0 line (Made doc name project first base ∷ []) → IsDriver (record driver { book = new })
-made driver new line doc name project first base = added driver new line (Made doc name project first base) refl (λ d. same_if (doc == d)) (λ t. refl)
+made driver new line doc name project first base = added_plainly driver new line (Made doc name project first base) refl (λ d. same_if (doc == d)) (λ t. refl) refl
 
 pub ticked : {K : Type 0} (driver : Driver K) (new : Shown) (line : Option ℕ) (ms : ℕ) → IsDriver driver → new ≡ adds driver.book 0 line (Ticked ms ∷ []) → IsDriver (record driver { book = new })
-ticked driver new line ms = added driver new line (Ticked ms) refl (λ d. refl) (λ t. refl)
+ticked driver new line ms = added_plainly driver new line (Ticked ms) refl (λ d. refl) (λ t. refl) refl
+
+-- what a `hand` hands out stands behind what was handed out before
+pub handed_more : {K : Type 0} (driver : Driver K) (new : Shown) (line : Option ℕ) (session n : ℕ) (project : List ℕ) (handed : Vec Item) → is_project project driver.book.journal ≡ true
+    → handed.items ≡ driver.handed.items ++ map shown_item (take n (history project driver.book.journal)) → IsDriver driver → new ≡ adds driver.book 0 line (hands session n project driver.book.journal ∷ []) → IsDriver (record driver { book = new; handed = handed })
+handed_more driver new line session n project handed known items =
+    added driver new line (hands session n project driver.book.journal) handed refl (λ d. refl) (λ t. refl) (items ∙ ap (λ xs. driver.handed.items ++ xs) (sym (items_of_hand session n project driver.book.journal)))
 
 -- ---- behind a line
 pub apart_behind : (line : Line) (from : ℕ) (left last : List Entry) → ((ms : List Making) → makings_by ms line ≡ ms) → moved_by line ≡ 0 → GoesApart from left last → IsBehind line left last
@@ -193,15 +217,11 @@ module _ {A : Type 0} (p : A → Bool) where
   none_found xs e = ap (λ b. if b then Some (position_or_len p xs) else None) (le-ltb (position_or_len p xs) (length xs) (nowhere xs e))
 
 -- ---- lines and their sessions
-and_left : (a b : Bool) → (a && b) ≡ true → (a ≡ true) × (b ≡ true)
-and_left true b e = (refl, e)
-and_left false b e = absurd (true≢false (sym e))
-
 pub by_parts : (n m : ℕ) (l : Line) (ls : List Line) → n ≡ m → AreBySessions n (l ∷ ls) → is_one_of m (session_of l) ≡ true
-by_parts n m l ls same by = ap (λ k. is_one_of k (session_of l)) (sym same) ∙ (and_left (is_one_of n (session_of l)) (list_all (λ x. is_one_of n (session_of x)) ls) by).0
+by_parts n m l ls same by = ap (λ k. is_one_of k (session_of l)) (sym same) ∙ (and_parts (is_one_of n (session_of l)) (list_all (λ x. is_one_of n (session_of x)) ls) by).0
 
 pub by_rest : (n : ℕ) (l : Line) (ls : List Line) → AreBySessions n (l ∷ ls) → AreBySessions n ls
-by_rest n l ls by = (and_left (is_one_of n (session_of l)) (list_all (λ x. is_one_of n (session_of x)) ls) by).1
+by_rest n l ls by = (and_parts (is_one_of n (session_of l)) (list_all (λ x. is_one_of n (session_of x)) ls) by).1
 
 -- ---- at first
 at_none : (holds : List (Option Prepared)) → All (λ k. k ≡ None) holds → (s : ℕ) (o : Option Prepared) → slice_get holds s ≡ Some o → o ≡ None
@@ -216,7 +236,7 @@ kept_none holds all = λ i s. each s (slice_get holds s) refl i
     each s None at = ap (option_and_then kept) at
     each s (Some o) at = ap (option_and_then kept) (at ∙ ap (λ x. Some x) (at_none holds all s o at))
 
-pub empty_driver : {K : Type 0} (driver : Driver K) → (driver.book.journal ≡ []) × (driver.book.drivers ≡ 0) → All (λ k. k ≡ None) driver.holds.items → ((c : ℕ) (x : Numbered) → slice_get driver.clients.items c ≡ Some x → x ≡ record { client = c; now = away }) → length driver.clients.items ≡ length driver.holds.items → IsDriver driver
+pub empty_driver : {K : Type 0} (driver : Driver K) → (driver.book.journal ≡ []) × (driver.book.drivers ≡ 0) × (driver.handed.items ≡ []) → All (λ k. k ≡ None) driver.holds.items → ((c : ℕ) (x : Numbered) → slice_get driver.clients.items c ≡ Some x → x ≡ record { client = c; now = away }) → length driver.clients.items ≡ length driver.holds.items → IsDriver driver
 empty_driver driver book all aways many = record {
   alone = book.1;
   held = record {
@@ -225,6 +245,7 @@ empty_driver driver book all aways many = record {
   };
   clients = record { each = λ c x at. (let is = aways c x at in (ap (λ (y : Numbered). y.client) is, ap (λ (y : Numbered). y.now) is ∙ sym (ap (client x.client) book.0 ∙ client-none x.client))) };
   many = many;
+  handed = book.2 ∙ sym (ap items_handed book.0 ∙ handed_by-none (λ e. true));
 }
 
 -- ---- a line of a session's client

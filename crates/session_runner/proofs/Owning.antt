@@ -1,9 +1,11 @@
 -- A line of a session's client: what it makes is the client's own, and the driver stands behind it.
 use Rattle.std.proofs.Common.{◌≡◌, ℕ, zero, suc, ◌+◌, arith, ◌<◌, List, [], ◌∷◌, ◌++◌, length, slice_set, Bool, true, false, not, refl, sym, ap, ◌∙◌, subst, eq-eqb, append-nil}
 use Rattle.std.specs.Prelude.{slice_get, slice_index_or, Option, Some, None, nat_lt, if◌then◌else◌}
+use Rattle.std.specs.Global.{Vec}
 use Rattle.std.proofs.lemmas.List.{length-set}
 use Rattle.ot_op.specs.declared.comp.Comp.{Comp}
 use Rattle.ot_op.specs.Compose.{appended}
+use Rattle.history_queue.specs.declared.item.Item.{Item}
 use Rattle.journal_entries.specs.declared.message.Msg.{Msg}
 use Rattle.journal_entries.specs.declared.update.Update.{Update}
 use Rattle.journal_entries.specs.declared.act.Act.{Act}
@@ -36,6 +38,7 @@ use Rattle.session_runner.specs.Holding.{IsDriver}
 use Rattle.session_runner.specs.Syncing.{GoesApartThenQuietly}
 use Rattle.session_runner.proofs.Apart.{same_clients}
 use Rattle.session_runner.proofs.Clients.{one_moves}
+use Rattle.session_runner.proofs.Handing.{apart_hands_none, quiet_hands_none}
 use Rattle.session_runner.proofs.Holding.{behind_apart}
 use Rattle.session_runner.proofs.Quiet.{quiet_held, quiet_one, quiet_others}
 
@@ -119,24 +122,26 @@ pub own_act : (left last : Shown) (seat number session : ℕ) (line : Option ℕ
 own_act left last seat number session line act seat_is same is = subst (λ n. last ≡ adds left n line (act session ∷ [])) seat_is (subst (λ n. last ≡ adds left seat line (act n ∷ [])) same is)
 
 -- ---- the driver behind a session's own entries
-pub own_driver : {K : Type 0} (driver now : Driver K) (session : ℕ) (was is : Numbered) → IsDriver driver → slice_get driver.clients.items session ≡ Some was → now.holds ≡ driver.holds → now.clients.items ≡ slice_set driver.clients.items session is
+pub own_driver : {K : Type 0} (driver now : Driver K) (session : ℕ) (was is : Numbered) → IsDriver driver → slice_get driver.clients.items session ≡ Some was → now.holds ≡ driver.holds → now.handed ≡ driver.handed → now.clients.items ≡ slice_set driver.clients.items session is
     → now.book.drivers ≡ driver.book.drivers → GoesQuietly session driver.book.journal now.book.journal → IsClientAfter now.book.journal was is → IsDriver now
-own_driver driver now session was is stood at holds set drivers g after = record {
+own_driver driver now session was is stood at holds kept set drivers g after = record {
   alone = drivers ∙ stood.alone;
   held = rw holds (quiet_held session driver.book.journal now.book.journal g driver.holds.items stood.held);
   clients = rw set (one_moves driver.clients.items session was is driver.book.journal now.book.journal at after (quiet_others session driver.book.journal now.book.journal g) stood.clients);
   many = ap length set ∙ length-set driver.clients.items session is ∙ stood.many ∙ ap (λ (v : _). length v.items) (sym holds);
+  handed = ap (λ (v : Vec Item). v.items) kept ∙ stood.handed ∙ sym (quiet_hands_none (λ e. true) session driver.book.journal now.book.journal g);
 }
 
-pub synced_driver : {K : Type 0} (driver now : Driver K) (session : ℕ) (was is : Numbered) → IsDriver driver → slice_get driver.clients.items session ≡ Some was → now.holds ≡ driver.holds → now.clients.items ≡ slice_set driver.clients.items session is
+pub synced_driver : {K : Type 0} (driver now : Driver K) (session : ℕ) (was is : Numbered) → IsDriver driver → slice_get driver.clients.items session ≡ Some was → now.holds ≡ driver.holds → now.handed ≡ driver.handed → now.clients.items ≡ slice_set driver.clients.items session is
     → now.book.drivers ≡ driver.book.drivers → GoesApartThenQuietly (next_token driver.book.journal) session driver.book.journal now.book.journal → IsClientAfter now.book.journal was is → IsDriver now
-synced_driver driver now session was is stood at holds set drivers g after =
+synced_driver driver now session was is stood at holds kept set drivers g after =
     let left = driver.book.journal in
     record {
       alone = drivers ∙ stood.alone;
       held = rw holds (quiet_held session g.mid now.book.journal g.quiet driver.holds.items (behind_apart driver.holds.items left g.mid g.apart stood.held));
       clients = rw set (one_moves driver.clients.items session was is left now.book.journal at after (λ c apart. quiet_others session g.mid now.book.journal g.quiet c apart ∙ same_clients (next_token left) left g.mid g.apart c) stood.clients);
       many = ap length set ∙ length-set driver.clients.items session is ∙ stood.many ∙ ap (λ (v : _). length v.items) (sym holds);
+      handed = ap (λ (v : Vec Item). v.items) kept ∙ stood.handed ∙ sym (quiet_hands_none (λ e. true) session g.mid now.book.journal g.quiet ∙ apart_hands_none (λ e. true) (next_token left) left g.mid g.apart);
     }
 
 -- ---- joining

@@ -1,6 +1,7 @@
 -- The rounds at the end of a run.
 use Rattle.std.proofs.Common.{◌≡◌, ◌≢◌, ◌⊎◌, ℕ, zero, suc, ◌+◌, ◌-◌, ◌<◌, ◌≤◌, List, [], ◌∷◌, length, Bool, true, false, true≢false, ◌||◌, refl, sym, ap, ap₂, ◌∙◌, subst, inl, inr, arith}
 use Rattle.std.specs.Prelude.{None}
+use Rattle.std.proofs.lemmas.Bool.{or_right}
 use Rattle.journal_entries.specs.declared.act.Act.{Act}
 use Rattle.journal_entries.specs.declared.act.Act.TheVariants.{Acquired}
 use Rattle.journal_entries.specs.declared.act.Entry.{Entry}
@@ -37,10 +38,6 @@ no_rounds sessions (suc n) j le = absurd (omega (arith, le))
 pub none_more : (p : ℕ → Bool) (n : ℕ) → any_below p n ≡ false → p n ≡ false → any_below p (n + 1) ≡ false
 none_more p n below at = let same : suc n ≡ n + 1 = omega arith in subst (λ (k : ℕ). any_below p k ≡ false) same (ap₂ (λ (a b : Bool). a || b) below at)
 
-or_true : (a : Bool) → (a || true) ≡ true
-or_true true = refl
-or_true false = refl
-
 pub some_at : (p : ℕ → Bool) (k n : ℕ) → k < n → p k ≡ true → any_below p n ≡ true
 some_at p k zero lt is = absurd (omega (arith, lt))
 some_at p k (suc n) lt is = by (λ low. some_at p k n low is) (cases k n lt)
@@ -49,7 +46,7 @@ some_at p k (suc n) lt is = by (λ low. some_at p k n low is) (cases k n lt)
     cases k n lt = grind arith
 
     by : (k < n → any_below p n ≡ true) → (k ≡ n) ⊎ (k < n) → (any_below p n || p n) ≡ true
-    by below (inl same) = ap (λ b. any_below p n || b) (ap p (sym same) ∙ is) ∙ or_true (any_below p n)
+    by below (inl same) = ap (λ b. any_below p n || b) (ap p (sym same) ∙ is) ∙ or_right (any_below p n) true refl
     by below (inr low) = ap (λ b. b || p n) (below low)
 
 pub has_some : {A : Type 0} (xs : List A) → 0 < length xs → has_any xs ≡ true

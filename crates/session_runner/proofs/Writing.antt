@@ -16,8 +16,9 @@ use Rattle.report_text.specs.Documents.{document_members}
 use Rattle.report_text.specs.Entries.{entry_members}
 use Rattle.ranges_tracker.specs.declared.change.Change.{Change}
 use Rattle.ranges_tracker.specs.declared.comment.Comment.{Comment}
-use Rattle.run_rules.specs.Report.{client_line, client_lines, project_line, project_lines_of}
-use Rattle.session_runner.specs.Report.{document_end, document_line, document_lines, entry_lines}
+use Rattle.project_histories.specs.Handing.{items_of}
+use Rattle.run_rules.specs.Report.{client_line, client_lines, entry_lines, project_line, project_lines_of}
+use Rattle.session_runner.specs.Report.{document_end, document_line, document_lines}
 
 -- what is a part of a front is a part of the whole
 pub longer : (start now : Option (List ℕ)) (held text front back whole : List ℕ) → front ++ back ≡ whole → DeliveredPrefix start now held (text ++ front) → DeliveredPrefix start now held (text ++ whole)
@@ -32,24 +33,28 @@ longer start now held text front back whole cut d = record {
 pub whole_prefix : (start now : Option (List ℕ)) (held text : List ℕ) → Delivered start now held text → DeliveredPrefix start now held text
 whole_prefix start now held text d = record { prefix = text; lost = []; parts = append-nil text; delivered = d }
 
-entry_lines-append : (n : ℕ) (xs ys : List Entry) → entry_lines n (xs ++ ys) ≡ entry_lines n xs ++ entry_lines (n + length xs) ys
-entry_lines-append n [] ys = ap (λ k. entry_lines k ys) (let z : n ≡ n + 0 = omega arith in z)
-entry_lines-append n (x ∷ xs) ys =
-    let same : n + 1 + length xs ≡ n + suc (length xs) = omega arith in
-    ap (λ l. line_of (entry_members 0 n [] x) ++ l) (entry_lines-append (n + 1) xs ys ∙ ap (λ k. entry_lines (n + 1) xs ++ entry_lines k ys) same)
-    ∙ sym (append_assoc (line_of (entry_members 0 n [] x)) (entry_lines (n + 1) xs) (entry_lines (n + suc (length xs)) ys))
+-- ---- the lines of entries
+-- an entry's line, behind those before
+abbrev pub entry_line : List Entry → Entry → List ℕ
+entry_line before e = line_of (entry_members 0 (length before) (items_of before e.act) e)
 
-pub entries_more : (j : List Entry) (k : ℕ) (e : Entry) → k < length j → e ≡ get_or j k e → entry_lines 0 (take (k + 1) j) ≡ entry_lines 0 (take k j) ++ line_of (entry_members 0 k [] e)
+entry_lines-append : (before xs ys : List Entry) → entry_lines before (xs ++ ys) ≡ entry_lines before xs ++ entry_lines (before ++ xs) ys
+entry_lines-append before [] ys = ap (λ b. entry_lines b ys) (sym (append-nil before))
+entry_lines-append before (x ∷ xs) ys =
+    ap (λ l. entry_line before x ++ l) (entry_lines-append (before ++ x ∷ []) xs ys ∙ ap (λ b. entry_lines (before ++ x ∷ []) xs ++ entry_lines b ys) (append_assoc before (x ∷ []) xs))
+    ∙ sym (append_assoc (entry_line before x) (entry_lines (before ++ x ∷ []) xs) (entry_lines (before ++ x ∷ xs) ys))
+
+pub entries_more : (j : List Entry) (k : ℕ) (e : Entry) → k < length j → e ≡ get_or j k e → entry_lines [] (take (k + 1) j) ≡ entry_lines [] (take k j) ++ line_of (entry_members 0 k (items_of (take k j) e.act) e)
 entries_more j k e lt is =
-    let long : length (take k j) ≡ k = length-take-le k j (omega (arith, lt)) in
-    let at : 0 + length (take k j) ≡ k = omega (arith, long) in
-    ap (entry_lines 0) (take_more j k e lt ∙ ap (λ x. take k j ++ x ∷ []) (sym is))
-    ∙ entry_lines-append 0 (take k j) (e ∷ [])
-    ∙ ap (λ n. entry_lines 0 (take k j) ++ (line_of (entry_members 0 n [] e) ++ [])) at
-    ∙ ap (λ l. entry_lines 0 (take k j) ++ l) (append-nil (line_of (entry_members 0 k [] e)))
+    ap (entry_lines []) (take_more j k e lt ∙ ap (λ x. take k j ++ x ∷ []) (sym is))
+    ∙ entry_lines-append [] (take k j) (e ∷ [])
+    ∙ ap (λ l. entry_lines [] (take k j) ++ l) (append-nil (entry_line (take k j) e))
+    ∙ ap (λ n. entry_lines [] (take k j) ++ line_of (entry_members 0 n (items_of (take k j) e.act) e)) (length-take-le k j (omega (arith, lt)))
 
-pub entries_cut : (j : List Entry) (k : ℕ) → entry_lines 0 (take k j) ++ entry_lines (0 + length (take k j)) (drop k j) ≡ entry_lines 0 j
-entries_cut j k = sym (entry_lines-append 0 (take k j) (drop k j)) ∙ ap (entry_lines 0) (take-append-drop k j)
+pub entries_cut : (j : List Entry) (k : ℕ) → entry_lines [] (take k j) ++ entry_lines (take k j) (drop k j) ≡ entry_lines [] j
+entries_cut j k = sym (entry_lines-append [] (take k j) (drop k j)) ∙ ap (entry_lines []) (take-append-drop k j)
+
+-- ---- the lines of documents
 
 pub documents_cut : (j : List Entry) (k n : ℕ) → k ≤ n → (rest : List ℕ) × (document_lines k j ++ rest ≡ document_lines n j)
 documents_cut j k zero le = ([], append-nil (document_lines k j) ∙ ap (λ n. document_lines n j) (let z : k ≡ 0 = omega (arith, le) in z))

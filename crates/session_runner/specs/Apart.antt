@@ -1,7 +1,7 @@
--- What lines leave that the runner counts on: the documents made, the clock, the clients, who closed, and the tokens under which updates were committed.
+-- What lines leave that the runner counts on: the documents made, the clock, the clients, what was handed out, who closed, and the tokens under which updates were committed.
 use Rattle.std.specs.Prelude.{◌≡◌, ℕ, ◌+◌, nat_le, Bool, true, false, List, ◌++◌, All}
 use Rattle.journal_entries.specs.declared.act.Act.{Act}
-use Rattle.journal_entries.specs.declared.act.Act.TheVariants.{Made, Ticked, Joined, Edited, Sent, Got, Left, Committed, Unloaded, Closed}
+use Rattle.journal_entries.specs.declared.act.Act.TheVariants.{Made, Ticked, Joined, Edited, Sent, Got, Left, Committed, Unloaded, Handed, Closed}
 use Rattle.journal_entries.specs.declared.act.Entry.{Entry}
 use Rattle.journal_rules.specs.Documents.{makings}
 use Rattle.journal_rules.specs.Legal.{closed}
@@ -11,7 +11,7 @@ use Rattle.session_lines.specs.Standing.{moved_by}
 use Rattle.session_lines.specs.declared.line.Line.{Line}
 use Rattle.session_runner.specs.Fitting.{makings_by}
 
--- an act that makes no document, leaves the clock, the cache and all clients, lets nobody close, and commits under no token below this one
+-- an act that makes no document, leaves the clock, the cache and all clients, hands nothing out, lets nobody close, and commits under no token below this one
 abbrev pub is_apart : ℕ → Act → Bool
 is_apart from (Made doc name project first base) = false
 is_apart from (Ticked ms) = false
@@ -22,6 +22,7 @@ is_apart from (Got session brief) = false
 is_apart from (Left session) = false
 is_apart from (Committed doc token ticket outcome) = nat_le from token
 is_apart from (Unloaded doc token) = false
+is_apart from (Handed project count) = false
 is_apart from (Closed driver) = false
 is_apart from _ = true
 

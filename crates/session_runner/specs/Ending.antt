@@ -29,6 +29,7 @@ use Rattle.book.specs.Stored.{AreStored}
 use Rattle.session_runner.specs.Passing.{MayFail, Passed, PassedKeeper}
 use Rattle.session_runner.specs.Report.{names_of, report_of}
 use Rattle.session_runner.specs.Clients.{AreClientsOf}
+use Rattle.session_runner.specs.Handing.{items_handed}
 use Rattle.session_runner.specs.declared.ending.Run.{Run}
 
 -- the words are the one word `run`
@@ -93,16 +94,17 @@ fault_text (Form n) = line_text n (codes "form")
 fault_text (Unknown n) = line_text n (codes "unknown")
 fault_text (Unbuilt n) = line_text n (codes "unbuilt")
 
--- a run that is to be reported has the sessions' names, and a client for each as the journal has it
+-- a run that is to be reported has the sessions' names, a client for each as the journal has it, and what was handed out
 pub record IsReady {K : Type 0} (bytes : List ℕ) (run : Run K) : Type 0 where
   pub names_are : run.names ≡ names_of bytes
   pub clients : AreClientsOf run.clients.items run.book.journal
   pub many : length run.clients.items ≡ length run.names
   pub few : length run.names < 2 ^ 32
+  pub handed : run.handed.items ≡ items_handed run.book.journal
 
 -- what telling it asks
 abbrev pub CanBeTold : {K : Type 0} → Ending K → Type 0
-CanBeTold (ending.Done run) = AreClientsOf run.clients.items run.book.journal × (length run.clients.items ≡ length run.names) × (length run.names < 2 ^ 32)
+CanBeTold (ending.Done run) = AreClientsOf run.clients.items run.book.journal × (length run.clients.items ≡ length run.names) × (length run.names < 2 ^ 32) × (run.handed.items ≡ items_handed run.book.journal)
 CanBeTold _ = ⊤
 
 -- how a whole input ends

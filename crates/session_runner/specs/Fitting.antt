@@ -5,7 +5,7 @@ use Rattle.journal_rules.specs.Documents.{Making, is_named}
 use Rattle.journal_rules.specs.Deciding.{longest}
 use Rattle.journal_rules.specs.Legal.{IsRaw, highest_base}
 use Rattle.session_lines.specs.declared.line.Line.{Line}
-use Rattle.session_lines.specs.declared.line.Line.TheVariants.{Doc, Tick, Raw, Join, Rejoin, Leave, Send, Resend, Recv, Ins, Del, Com, Sync, Drain, Flush, Hold, Finish}
+use Rattle.session_lines.specs.declared.line.Line.TheVariants.{Doc, Tick, Raw, Join, Rejoin, Leave, Send, Resend, Recv, Ins, Del, Com, Sync, Drain, Flush, Hold, Finish, Hand}
 
 -- the commands that are built so far
 abbrev pub is_built : Line → Bool
@@ -26,6 +26,7 @@ is_built (Drain session doc) = true
 is_built (Flush session doc) = true
 is_built (Hold session doc) = true
 is_built (Finish session) = true
+is_built (Hand session project n) = true
 is_built _ = false
 
 -- what reading promises of a line behind documents that were made so

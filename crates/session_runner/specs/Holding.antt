@@ -11,6 +11,7 @@ use Rattle.ranges_tracker.specs.Kept.{Kept}
 use Rattle.session_runner.specs.declared.driver.Driver.{Driver}
 use Rattle.run_rules.specs.Keeping.{Preparation, Preparations}
 use Rattle.session_runner.specs.Clients.{AreClientsOf}
+use Rattle.session_runner.specs.Handing.{items_handed}
 
 -- a preparation, as the rules of runs see it
 abbrev pub preparation_of : Prepared → Preparation
@@ -45,9 +46,10 @@ pub record AreHeld (holds : List (Option Prepared)) (journal : List Entry) : Typ
 abbrev pub empty_book : List (List ℕ × Kept) → ℕ → Shown
 empty_book documents count = record { journal = []; drivers = 0; documents = documents; faults = count; start = count }
 
--- a driver's book has no other drivers, what sessions keep stands, and each session has its client
+-- a driver's book has no other drivers, what sessions keep stands, each session has its client, and the driver has what was handed out
 pub record IsDriver {K : Type 0} (driver : Driver K) : Type 0 where
   pub alone : driver.book.drivers ≡ 0
   pub held : AreHeld driver.holds.items driver.book.journal
   pub clients : AreClientsOf driver.clients.items driver.book.journal
   pub many : length driver.clients.items ≡ length driver.holds.items
+  pub handed : driver.handed.items ≡ items_handed driver.book.journal

@@ -13,6 +13,7 @@ ghost use Rattle.journal_rules.specs.Locks.{clock, next_token};
 ghost use Rattle.session_lines.specs.Script.{session_of};
 ghost use Rattle.session_lines.specs.Standing.{AreBySessions, is_one_of, moved_by};
 ghost use Rattle.run_rules.specs.Keeping.{keeping, nothing_kept};
+ghost use Rattle.run_rules.specs.Plain.{hand_act};
 ghost use Rattle.run_rules.specs.Lines.{Does, DrainsNamed, Finishes, FlushesNamed, Holds, Joins, Leads, Syncs, numbered};
 ghost use Rattle.turn_rules.specs.Turns.{Alone, Turn, entry_by};
 ghost use Rattle.session_runner.specs.Apart.{GoesApart, IsBehind};
@@ -23,15 +24,18 @@ ghost use Rattle.client_lines.specs.Lines.{IsDoable, client_act};
 ghost use Rattle.journal_rules.specs.Client.{away as away_lem};
 ghost use Rattle.std.specs.Global.{Vec};
 ghost use Rattle.session_runner.specs.Fitting.{AreBuilt, AreFit, IsFit, is_built};
+ghost use Rattle.session_runner.specs.Handing.{items_handed};
 ghost use Rattle.session_runner.specs.Holding.{IsDriver, empty_book, kept_in};
 
 use crate::syncing::sync_client;
 use book::{
-    AcquireFault, Book, By, CommitFault, MakeFault, Prepared, RawFault, RawUpdate, TickFault,
+    AcquireFault, Book, By, CommitFault, HandFault, MakeFault, Prepared, RawFault, RawUpdate,
+    TickFault,
 };
 use client_lines::{ClientLine, join_named};
 use dispatcher::{DrainEnd, drain, prepare};
 use flush_manager::{FlushEnd, flush_doc};
+use history_queue::Item;
 use journal_entries::Why;
 use keeper::Keeper;
 use ot_units::{Name, Units};
@@ -39,25 +43,27 @@ use session_lines::Line;
 use share_client::{Edit, ShareClient};
 use std::alloc::{AllocError, Global};
 
-/// The book of a run, what each session keeps from a `hold` to its next `finish`, and each session's
-/// client, by the sessions' numbers.
+/// The book of a run, what each session keeps from a `hold` to its next `finish`, each session's
+/// client, by the sessions' numbers, and what was handed out of the projects' histories, in order.
 #[derive(Drop)]
 pub(crate) struct Driver<K: Keeper> {
     pub book: Book<K>,
     pub holds: Vec<Option<Prepared>>,
     pub clients: Vec<ShareClient>,
+    pub handed: Vec<Item>,
 }
 
-/// What a run's lines leave: its book, and the clients of its sessions.
+/// What a run's lines leave: its book, the clients of its sessions, and what was handed out.
 #[derive(Drop)]
 pub(crate) struct Left<K: Keeper> {
     pub book: Book<K>,
     pub clients: Vec<ShareClient>,
+    pub handed: Vec<Item>,
 }
 
-/// Does the lines in order, from line 1 on, over a keeper, and gives the book and the clients back.
-/// Sessions keep nothing at first, and no client has joined. Where memory is wanting the keeper alone is
-/// given back.
+/// Does the lines in order, from line 1 on, over a keeper, and gives the book, the clients and what was
+/// handed out. Sessions keep nothing at first, and no client has joined. Where memory is wanting the
+/// keeper alone is given back.
 pub(crate) fn do_lines<K: Keeper>(
     alloc: Global,
     keeper: K,
@@ -75,6 +81,7 @@ pub(crate) fn do_lines<K: Keeper>(
     ensures closed { IfOk result (λ left. closed left.book.journal ≡ []) }
     ensures clients { IfOk result (λ left. AreClientsOf left.clients.items left.book.journal) }
     ensures many { IfOk result (λ left. length left.clients.items ≡ sessions) }
+    ensures handed { IfOk result (λ left. left.handed.items ≡ items_handed left.book.journal) }
 {
     let mut driver = Driver::new(alloc, keeper, sessions)?;
     let mut number = 1;
@@ -84,19 +91,29 @@ pub(crate) fn do_lines<K: Keeper>(
         };
         number += 1;
     }
-    let Driver { book, clients, .. } = driver;
-    Ok(Left { book, clients })
+    let Driver {
+        book,
+        clients,
+        handed,
+        ..
+    } = driver;
+    Ok(Left {
+        book,
+        clients,
+        handed,
+    })
 }
 
 impl<K: Keeper> Driver<K> {
-    // The driver of an empty book over a keeper, of so many sessions that keep nothing. Where memory is
-    // wanting the keeper is given back.
+    // The driver of an empty book over a keeper, of so many sessions that keep nothing. Nothing was
+    // handed out. Where memory is wanting the keeper is given back.
     fn new(alloc: Global, keeper: K, sessions: u32) -> Result<Driver<K>, K>
         ensures book { IfOk result (λ driver. driver.book ≡ empty_book (K.documents keeper) (K.count keeper)) }
         ensures sessions { IfOk result (λ driver. length driver.holds.items ≡ sessions) }
         ensures nothing { IfOk result (λ driver. All (λ kept. kept ≡ None) driver.holds.items) }
         ensures many { IfOk result (λ driver. length driver.clients.items ≡ sessions) }
         ensures away { IfOk result (λ driver. (c : ℕ) (x : Numbered) → slice_get driver.clients.items c ≡ Some x → x ≡ record { client = c; now = away_lem }) }
+        ensures handed { IfOk result (λ driver. driver.handed.items ≡ []) }
     {
         let (Ok(holds), Ok(clients)) = (no_holds(alloc, sessions), away_clients(alloc, sessions))
         else {
@@ -107,6 +124,7 @@ impl<K: Keeper> Driver<K> {
                 book,
                 holds,
                 clients,
+                handed: Vec::new(alloc),
             }),
             Err((_, keeper)) => Err(keeper),
         }
@@ -218,6 +236,11 @@ impl<K: Keeper> Driver<K> {
             ),
             Line::Hold { session, doc } => self.hold(alloc, number, session, &doc),
             Line::Finish { session } => self.finish(number, session),
+            Line::Hand {
+                session,
+                project,
+                n,
+            } => self.hand(by, session, &project, n),
             _ => unreachable!(),
         }
     }
@@ -348,6 +371,21 @@ impl<K: Keeper> Driver<K> {
             }
             Err(CommitFault::Stale(stale)) => self.book.decline(by, session, Why::Stale(stale)),
             Err(CommitFault::Memory(_)) => Err(AllocError),
+        }
+    }
+
+    // Hands the first items of a project's history out, `n` of them, or all where there are fewer.
+    fn hand(&mut self, by: By, session: u32, project: &Name, n: u32) -> Result<(), AllocError>
+        requires driver { IsDriver self.old }
+        requires seat { by.seat ≡ 0 }
+        ensures hands { OnOk result (self.new.book ≡ adds self.old.book 0 by.line (hand_act session project.now n self.old.book.journal ∷ [])) }
+        ensures driver { OnOk result (IsDriver self.new) }
+        ensures holds { self.new.holds ≡ self.old.holds }
+    {
+        match self.book.hand_history(by, project, n as u64) {
+            Ok(mut items) => self.handed.append(&mut items),
+            Err(HandFault::NoProject) => self.book.decline(by, session, Why::NoProject),
+            Err(HandFault::Memory) => Err(AllocError),
         }
     }
 }

@@ -10,6 +10,7 @@ ghost use Rattle.run_rules.specs.Completing.{has_flush_failed_at_end, is_flush_f
 ghost use Rattle.run_rules.specs.Follows.{Follows};
 ghost use Rattle.session_runner.specs.Ending.{AreRun, CanBeTold, EndsAs, Explains, GivesBack, HasKeeper, IsTextTold, IsTold, fault_in, fault_text, first_unbuilt as first_unbuilt_lem, line_text, status_by};
 ghost use Rattle.book.specs.Going.{GoesOn};
+ghost use Rattle.session_runner.specs.Handing.{items_handed};
 ghost use Rattle.session_runner.specs.Holding.{empty_book};
 ghost use Rattle.session_runner.specs.Fitting.{AreBuilt, AreFit, is_built as is_built_lem};
 ghost use Rattle.session_runner.specs.Passing.{passed};
@@ -19,6 +20,7 @@ use crate::closing::end_run;
 use crate::driver::{Left, do_lines};
 use crate::report::{WriteFault, write_report};
 use book::Book;
+use history_queue::Item;
 use journal_entries::{Act, Entry};
 use keeper::Keeper;
 use session_lines::{Line, Names, Script, ScriptFault, read_script};
@@ -50,12 +52,14 @@ pub(crate) enum Ending<K: Keeper> {
     Done(Run<K>),
 }
 
-/// A run that was done: its book, and its sessions' clients and names, by their numbers.
+/// A run that was done: its book, its sessions' clients and names, by their numbers, and what was handed
+/// out of the projects' histories, in order.
 #[derive(Drop)]
 pub(crate) struct Run<K: Keeper> {
     pub book: Book<K>,
     pub clients: Vec<ShareClient>,
     pub names: Names,
+    pub handed: Vec<Item>,
 }
 
 /// Reads the input, where the words are in form, and does its lines over a keeper.
@@ -110,10 +114,17 @@ fn ending_of<K: Keeper>(alloc: Global, bytes: &[u8], keeper: K) -> Ending<K>
         names,
     } = script;
     match run_lines(alloc, keeper, lines.into_vec(), sessions) {
-        Ok(Left { book, clients }) => Ending::Done(Run {
+        Ok(
+            Left {
+                book,
+                clients,
+                handed,
+            },
+        ) => Ending::Done(Run {
             book,
             clients,
             names,
+            handed,
         }),
         Err(keeper) => Ending::Memory(keeper),
     }
@@ -158,6 +169,7 @@ fn is_built(line: &Line) -> bool
             | Line::Flush { .. }
             | Line::Hold { .. }
             | Line::Finish { .. }
+            | Line::Hand { .. }
     )
 }
 
@@ -177,17 +189,23 @@ fn run_lines<K: Keeper>(
     ensures ended { IfOk result (λ left. HasEnded left.book.journal) }
     ensures clients { IfOk result (λ left. AreClientsOf left.clients.items left.book.journal) }
     ensures many { IfOk result (λ left. length left.clients.items ≡ sessions) }
+    ensures handed { IfOk result (λ left. left.handed.items ≡ items_handed left.book.journal) }
     ensures goes_on { IfOk result (λ left. GoesOn K.tells (empty_book (K.documents keeper) (K.count keeper)) left.book) }
 {
     let Left {
         mut book,
         mut clients,
+        handed,
     } = do_lines(alloc, keeper, lines, sessions)?;
     let Ok(()) = end_run(alloc, &mut book, &mut clients) else {
         return Err(book.ended().0);
     };
     book.legal();
-    Ok(Left { book, clients })
+    Ok(Left {
+        book,
+        clients,
+        handed,
+    })
 }
 
 /// Writes what the ending says, and gives the status.

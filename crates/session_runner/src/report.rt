@@ -6,15 +6,18 @@ ghost use Rattle.source_sink.specs.Buffered.{Delivered};
 ghost use Rattle.source_sink.specs.Causes.{HasCauseOf};
 ghost use Rattle.source_sink.specs.Outside.{Wrote};
 ghost use Rattle.journal_rules.specs.Documents.{IsMade, makings};
-ghost use Rattle.session_runner.specs.Report.{document_line as document_line_lem, document_lines, entry_lines, report_of};
+ghost use Rattle.journal_rules.specs.Legal.{IsLegal};
+ghost use Rattle.session_runner.specs.Report.{document_line as document_line_lem, document_lines, report_of};
+ghost use Rattle.session_runner.specs.Handing.{handed_count as handed_count_lem, items_handed};
 ghost use Rattle.session_runner.specs.Writing.{Pushed};
 ghost use Rattle.session_runner.specs.Clients.{AreClientsOf};
-ghost use Rattle.run_rules.specs.Report.{client_line_of, client_lines, end_state as end_state_lem, project_line as project_line_lem, project_lines, shown_text};
+ghost use Rattle.run_rules.specs.Report.{client_line_of, client_lines, entry_lines, end_state as end_state_lem, project_line as project_line_lem, project_lines, shown_text};
 ghost use Rattle.project_histories.specs.Handing.{projects_of};
 
 use crate::ending::Run;
 use book::Book;
-use journal_entries::Entry;
+use history_queue::Item;
+use journal_entries::{Act, Entry};
 use journal_rules::ClientState;
 use keeper::Keeper;
 use ot_op::Op;
@@ -63,6 +66,7 @@ pub(crate) fn write_report<W: Sink, K: Keeper>(
     requires clients { AreClientsOf run.now.clients.items run.now.book.journal }
     requires many { length run.now.clients.items ≡ length run.now.names }
     requires few { length run.now.names < 2 ^ 32 }
+    requires handed { run.now.handed.items ≡ items_handed run.now.book.journal }
     ensures wrote { Wrote (W.written out.old) (W.written out.new) (report_of run.now.names run.now.book.journal) result }
     ensures cause { HasCauseOf (W.count out.old) (W.count out.new) result WriteFault.Failed }
 {
@@ -81,32 +85,56 @@ fn write_lines<W: Sink, K: Keeper>(
     requires clients { AreClientsOf run.now.clients.items run.now.book.journal }
     requires many { length run.now.clients.items ≡ length run.now.names }
     requires few { length run.now.names < 2 ^ 32 }
+    requires handed { run.now.handed.items ≡ items_handed run.now.book.journal }
     ensures pushed { (start : Option (List ℕ)) (text : List ℕ) → Delivered start (W.written out.old) buffer.old text
         → Pushed start (W.written out.new) buffer.new (text ++ report_of run.now.names run.now.book.journal) result }
     ensures cause { HasCauseOf (W.count out.old) (W.count out.new) result WriteFault.Failed }
 {
-    write_entries(alloc, run.book.journal().as_slice(), buffer, out)?;
+    write_entries(
+        alloc,
+        run.book.journal().as_slice(),
+        &run.handed,
+        buffer,
+        out,
+    )?;
     write_documents(alloc, &run.book, buffer, out)?;
     write_clients(alloc, run, buffer, out)?;
     write_projects(alloc, &run.book, buffer, out)
 }
 
+// Each entry that hands history out takes its items from the front of those that are left.
 fn write_entries<W: Sink>(
     alloc: Global,
     journal: &[Entry],
+    handed: &[Item],
     buffer: &mut WriteBuffer,
     out: &mut W,
 ) -> Result<(), WriteFault>
+    requires legal { IsLegal journal.now }
+    requires handed { handed.now ≡ items_handed journal.now }
     ensures pushed { (start : Option (List ℕ)) (text : List ℕ) → Delivered start (W.written out.old) buffer.old text
-        → Pushed start (W.written out.new) buffer.new (text ++ entry_lines 0 journal.now) result }
+        → Pushed start (W.written out.new) buffer.new (text ++ entry_lines [] journal.now) result }
     ensures cause { HasCauseOf (W.count out.old) (W.count out.new) result WriteFault.Failed }
 {
     let mut line = Vec::new(alloc);
+    let mut left = handed;
     for (n, entry) in journal.iter().enumerate() {
-        let made = append_entry_line(alloc, line, 0, n as u64, entry, &[]);
+        let (items, behind) = left.split_at(handed_count(&entry.act));
+        let made = append_entry_line(alloc, line, 0, n as u64, entry, items);
         line = write_line(made, buffer, out)?;
+        left = behind;
     }
     Ok(())
+}
+
+// How many items an act hands out.
+fn handed_count(act: &Act) -> usize
+    ensures { result ≡ handed_count_lem act.now }
+{
+    match act {
+        Act::Handed { count, .. } => *count as usize,
+        _ => 0,
+    }
 }
 
 fn write_documents<W: Sink, K: Keeper>(

@@ -1,5 +1,6 @@
 use Rattle.std.proofs.Common.{◌≡◌, ◌∙◌, ◌∷◌, ◌++◌, ◌+◌, List, [], length, refl, sym, ap, subst, arith}
 use Rattle.std.specs.Prelude.{None}
+use Rattle.std.proofs.lemmas.Result.{on_ok_weaker}
 use Rattle.expiring_lock.specs.declared.lock.TheConstants.{LOCK_LIFE}
 use Rattle.journal_entries.specs.declared.act.Act.TheVariants.{Closed, Ticked}
 use Rattle.journal_entries.specs.declared.act.Entry.{Entry}
@@ -16,7 +17,6 @@ use Rattle.book.specs.Shown.{Shown}
 use Rattle.book.proofs.Going.{goes_further, goes_rest}
 use Rattle.session_runner.specs.Clients.{AreClientsOf}
 use Rattle.session_runner.proofs.Clients.{all_stay, one_stays}
-use Rattle.session_runner.proofs.Lines.{on_ok}
 use Rattle.session_runner.proofs.Resting.{goes_one}
 use Rattle.session_runner.proofs.closing.end_run.Goals as goal
 
@@ -54,8 +54,8 @@ returns g c =
     let began = goes_further old c.close_driver.new.self c.tick.new.book (goes_one old c.close_driver.new.self 0 None (Closed 0) c.close_driver.ensures) (goes_one c.close_driver.new.self c.tick.new.book 0 None (Ticked LOCK_LIFE) c.in_ok-tick.ensures) in
     let went = goes_further old c.tick.new.book mid began (goes_rest c.tick.new.book mid on.0 done.rest on.1) in
     record {
-      ends = on_ok c.flush_needed.result (λ flushes. (mid.journal, rounds, flushes)) c.flush_needed.ensures.flushes;
-      clients = on_ok c.flush_needed.result (λ stay. all_stay c.go_rounds.new.clients.items mid.journal last.journal stay done.clients) c.flush_needed.ensures.stay;
-      sessions = on_ok c.flush_needed.result (λ stay. done.sessions) c.flush_needed.ensures.stay;
-      goes_on = on_ok c.flush_needed.result (λ more. goes_further old mid last went more) c.flush_needed.ensures.goes_on;
+      ends = on_ok_weaker c.flush_needed.result (λ flushes. (mid.journal, rounds, flushes)) c.flush_needed.ensures.flushes;
+      clients = on_ok_weaker c.flush_needed.result (λ stay. all_stay c.go_rounds.new.clients.items mid.journal last.journal stay done.clients) c.flush_needed.ensures.stay;
+      sessions = on_ok_weaker c.flush_needed.result (λ stay. done.sessions) c.flush_needed.ensures.stay;
+      goes_on = on_ok_weaker c.flush_needed.result (λ more. goes_further old mid last went more) c.flush_needed.ensures.goes_on;
     }

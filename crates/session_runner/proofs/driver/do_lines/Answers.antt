@@ -26,7 +26,7 @@ loop-line-init g c =
     let none : c.in_ok-driver.driver.book.journal ≡ [] = ap (λ (b : Shown). b.journal) new.book in
     let now = ap clock none ∙ clock-none in
     rw same (record {
-      driver = empty_driver c.in_ok-driver.driver (none, ap (λ (b : Shown). b.drivers) new.book) new.nothing new.away (new.many ∙ sym new.sessions);
+      driver = empty_driver c.in_ok-driver.driver (none, ap (λ (b : Shown). b.drivers) new.book, new.handed) new.nothing new.away (new.many ∙ sym new.sessions);
       goes_on = goes_same _ c.in_ok-driver.driver.book new.book;
       sessions = new.sessions;
       fit = subst (λ (ms : List Making). AreFit ms c.args.lines.items) (sym (ap makings none ∙ makings-none)) c.requires.fit;

@@ -1,4 +1,5 @@
 use Rattle.std.proofs.Common.{◌≡◌, ◌∙◌, ◌<◌, ℕ, length, [], Some, refl, sym, ap, subst, arith, append-nil}
+use Rattle.std.proofs.lemmas.Result.{on_ok_weaker}
 use Rattle.journal_entries.specs.declared.act.Act.TheVariants.{Declined}
 use Rattle.journal_entries.specs.declared.why.Why.TheVariants.{Busy}
 use Rattle.journal_rules.specs.Documents.{waiting}
@@ -8,7 +9,7 @@ use Rattle.turn_rules.specs.Turns.{Alone, entry_by}
 use Rattle.book.specs.Shown.{Shown}
 use Rattle.session_runner.proofs.Apart.{apart_on, many_drained, wrote}
 use Rattle.dispatcher.proofs.Draining.{drains_done, drains_held_up}
-use Rattle.session_runner.proofs.Lines.{drains_named, on_ok}
+use Rattle.session_runner.proofs.Lines.{drains_named}
 use Rattle.session_runner.proofs.driver.drain_named.Goals as goal
 
 pub returns-in-Done-clause-drains : goal.returns-in-Done-clause-drains
@@ -25,7 +26,7 @@ pub returns-in-Busy-clause-drains : goal.returns-in-Busy-clause-drains
 returns-in-Busy-clause-drains g c =
     let by = entry_by 0 (Some c.args.number) in let old = c.args.book.now.journal in let mid = c.drain.new.book.journal in let doc = c.in-Some.doc in
     let wait = c.waiting-most.ensures in let some = c.if-most-eq0.false in
-    on_ok c.decline-in-Busy.result
+    on_ok_weaker c.decline-in-Busy.result
     (λ is. drains_named by c.args.session doc c.args.name.now old mid c.decline-in-Busy.new.self.journal (HeldUp c.in-Busy.busy) (sym c.find.ensures ∙ c.in-Some.is) (omega (arith, wait, some))
     (subst (λ (n : ℕ). Drains by Alone doc n old mid (HeldUp c.in-Busy.busy)) wait (drains_held_up by doc c.waiting-most.result c.in-Busy.count c.in-Busy.busy old mid c.in-Busy.ensures.drained)) (ap (λ (b : Shown). b.journal) is))
     c.decline-in-Busy.ensures.ok
@@ -33,7 +34,7 @@ returns-in-Busy-clause-drains g c =
 pub returns-in-Busy-clause-apart : goal.returns-in-Busy-clause-apart
 returns-in-Busy-clause-apart g c =
     let line = Some c.args.number in let old = c.args.book.now.journal in let mid = c.drain.new.book.journal in let new = c.decline-in-Busy.new.self.journal in
-    on_ok c.decline-in-Busy.result
+    on_ok_weaker c.decline-in-Busy.result
     (λ is. apart_on (next_token old) old mid new (many_drained line c.in-Some.doc c.in-Busy.count old mid c.in-Busy.ensures.drained.0)
     (wrote line (next_token old) (Declined c.args.session (Busy c.in-Busy.busy)) mid new refl (ap (λ (b : Shown). b.journal) is)))
     c.decline-in-Busy.ensures.ok

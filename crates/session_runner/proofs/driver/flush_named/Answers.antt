@@ -1,5 +1,6 @@
 use Rattle.std.proofs.Common.{◌≡◌, ◌∙◌, ◌∷◌, ◌++◌, [], Some, refl, sym, ap, subst}
 use Rattle.std.specs.Prelude.{None}
+use Rattle.std.proofs.lemmas.Result.{on_ok_weaker}
 use Rattle.journal_entries.specs.declared.act.Act.TheVariants.{Declined}
 use Rattle.journal_rules.specs.Locks.{next_token}
 use Rattle.turn_rules.specs.Turns.{entry_by}
@@ -8,7 +9,6 @@ use Rattle.session_runner.proofs.Apart.{wrote}
 use Rattle.session_runner.proofs.Flushes.{done_puts, failed_puts, flush_apart, flush_done}
 use Rattle.journal_entries.specs.declared.why.Why.TheVariants.{NoDoc}
 use Rattle.book.proofs.Going.{goes_further}
-use Rattle.session_runner.proofs.Lines.{on_ok}
 use Rattle.session_runner.proofs.Resting.{goes_one}
 use Rattle.session_runner.proofs.driver.flush_named.Goals as goal
 
@@ -37,7 +37,7 @@ returns-in-Failed-clause-apart g c =
     flush_apart (Some c.args.number) (next_token old) c.in-Some.doc old new put.0 put.1
 
 pub returns-in_default-clause-goes_on : goal.returns-in_default-clause-goes_on
-returns-in_default-clause-goes_on g c = on_ok c.decline.result (λ is. goes_one c.args.book.now c.decline.new.self 0 (Some c.args.number) (Declined c.args.session NoDoc) is) c.decline.ensures.ok
+returns-in_default-clause-goes_on g c = on_ok_weaker c.decline.result (λ is. goes_one c.args.book.now c.decline.new.self 0 (Some c.args.number) (Declined c.args.session NoDoc) is) c.decline.ensures.ok
 
 pub returns-in-Done-clause-goes_on : goal.returns-in-Done-clause-goes_on
 returns-in-Done-clause-goes_on g c = c.flush_doc.ensures.goes
@@ -48,4 +48,4 @@ returns-in-Failed-clause-goes_on g c = c.flush_doc.ensures.goes
 pub returns-in-Refused-clause-goes_on : goal.returns-in-Refused-clause-goes_on
 returns-in-Refused-clause-goes_on g c =
     let mid = c.flush_doc.new.book in let new = c.decline-in-Refused.new.self in
-    on_ok c.decline-in-Refused.result (λ is. goes_further c.args.book.now mid new c.flush_doc.ensures.goes (goes_one mid new 0 (Some c.args.number) (Declined c.args.session c.in-Refused.why) is)) c.decline-in-Refused.ensures.ok
+    on_ok_weaker c.decline-in-Refused.result (λ is. goes_further c.args.book.now mid new c.flush_doc.ensures.goes (goes_one mid new 0 (Some c.args.number) (Declined c.args.session c.in-Refused.why) is)) c.decline-in-Refused.ensures.ok

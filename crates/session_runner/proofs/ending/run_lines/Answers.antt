@@ -1,4 +1,4 @@
-use Rattle.std.proofs.Common.{◌∙◌, [], ◌∷◌, ◌++◌, None, subst, arith}
+use Rattle.std.proofs.Common.{◌∙◌, [], ◌∷◌, ◌++◌, length, None, subst, sym, true, arith}
 use Rattle.journal_entries.specs.declared.act.Act.TheVariants.{Closed}
 use Rattle.run_rules.specs.Ending.{Ends}
 use Rattle.run_rules.specs.Follows.{Follows}
@@ -6,6 +6,7 @@ use Rattle.run_rules.proofs.Completing.{follows_ended}
 use Rattle.turn_rules.specs.Turns.{entry_by}
 use Rattle.book.proofs.Going.{goes_further}
 use Rattle.session_runner.proofs.Fitting.{ticks_low}
+use Rattle.session_runner.proofs.Handing.{ends_hand_none}
 use Rattle.session_runner.proofs.ending.run_lines.Goals as goal
 
 pub do_lines-requires-clause-slow : goal.do_lines-requires-clause-slow
@@ -30,5 +31,6 @@ returns g c =
       ended = follows_ended c.args.lines.items c.args.sessions last c.legal.ensures c.requires.numbered follows;
       clients = c.in-Ok.ensures.clients;
       many = c.in-Ok.ensures.sessions ∙ many;
+      handed = c.in_ok-book.ensures.handed ∙ sym (ends_hand_none (λ e. true) (length c.in_ok-book.field-0.clients.items) j last c.in-Ok.ensures.ends);
       goes_on = goes_further _ c.in_ok-book.field-0.book c.end_run.new.book c.in_ok-book.ensures.goes_on c.in-Ok.ensures.goes_on;
     }

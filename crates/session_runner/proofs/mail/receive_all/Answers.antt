@@ -1,11 +1,12 @@
-use Rattle.std.proofs.Common.{ℕ, ◌∙◌, sym, ap, subst, refl}
-use Rattle.std.specs.Prelude.{slice_get}
+use Rattle.std.proofs.Common.{ℕ, ◌∙◌, true≢false, sym, ap, subst, refl}
+use Rattle.std.specs.Prelude.{is_some, slice_get}
 use Rattle.journal_rules.specs.Mail.{mail}
 use Rattle.turn_rules.specs.Turns.{Alone, entry_by}
 use Rattle.run_rules.specs.Lines.{Gets}
 use Rattle.book.specs.Going.{with_journal}
 use Rattle.book.specs.Shown.{Shown}
-use Rattle.session_runner.proofs.Getting.{gets_rest, gets_first, gets_none, gets_quietly, less_mail, not_there}
+use Rattle.session_runner.proofs.Lists.{none_of}
+use Rattle.session_runner.proofs.Getting.{gets_rest, gets_first, gets_none, gets_quietly, less_mail}
 use Rattle.session_runner.proofs.Quiet.{quiet_none, quiet_on}
 use Rattle.session_runner.proofs.mail.receive_all.Goals as goal
 
@@ -37,7 +38,7 @@ pub returns-clause-gets : goal.returns-clause-gets
 returns-clause-gets g c =
     let was = c.getting.invariant in let got = c.in_ok-receive.ensures in
     let none = sym c.is_some.ensures ∙ c.if-is_some.false in
-    let same = ap (λ (b : Shown). b.journal) (got.none (not_there c.in_ok-receive.field-0 none)).0 in
+    let same = ap (λ (b : Shown). b.journal) (got.none (none_of c.in_ok-receive.field-0 (λ m at. true≢false (sym (ap is_some at) ∙ none)))).0 in
     subst (λ (s : ℕ). Gets (entry_by s c.args.by.line) Alone c.args.client.now.client c.args.book.now.journal c.receive.new.self.journal) (sym c.requires.seat)
     (was.goes c.receive.new.self.journal (gets_none c.args.by.line c.args.client.now.client c.getting.book.journal c.receive.new.self.journal c.in_ok-receive.field-0 none
     (got.first ∙ ap (λ n. slice_get (mail n c.getting.book.journal) 0) was.client.client_is) same))

@@ -1,12 +1,12 @@
 use Rattle.std.proofs.Common.{◌≡◌, ◌∙◌, refl, sym, ap, subst}
+use Rattle.std.proofs.lemmas.Result.{on_ok_weaker}
 use Rattle.journal_rules.specs.Locks.{next_token}
 use Rattle.client_lines.proofs.Declining.{declined_client}
 use Rattle.session_runner.proofs.Apart.{same_clients}
-use Rattle.session_runner.proofs.Lines.{on_ok}
 use Rattle.session_runner.proofs.syncing.sync_client.Goals as goal
 
 pub returns-then-not-is_present-clause-client : goal.returns-then-not-is_present-clause-client
-returns-then-not-is_present-clause-client g c = on_ok c.decline.result (λ is. declined_client c.args.book.now c.decline.new.self c.args.by.seat c.args.by.line c.client.result _ c.args.client.now c.args.client.now c.requires.client refl is) c.decline.ensures.ok
+returns-then-not-is_present-clause-client g c = on_ok_weaker c.decline.result (λ is. declined_client c.args.book.now c.decline.new.self c.args.by.seat c.args.by.line c.client.result _ c.args.client.now c.args.client.now c.requires.client refl is) c.decline.ensures.ok
 
 pub receive_all-requires-clause-client : goal.receive_all-requires-clause-client
 receive_all-requires-clause-client g c =

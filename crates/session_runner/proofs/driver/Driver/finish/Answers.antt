@@ -1,4 +1,4 @@
-use Rattle.std.proofs.Common.{◌≡◌, ◌∙◌, ◌∷◌, ◌++◌, ℕ, List, length, [], Some, None, refl, sym, ap, subst}
+use Rattle.std.proofs.Common.{◌≡◌, ◌∙◌, ◌∷◌, ◌++◌, ℕ, List, length, [], Some, None, true, refl, sym, ap, subst}
 use Rattle.std.specs.Prelude.{Option}
 use Rattle.expiring_lock.specs.declared.refusal.Stale.{Stale}
 use Rattle.journal_entries.specs.declared.act.Act.TheVariants.{Declined}
@@ -13,23 +13,25 @@ use Rattle.book.specs.declared.faults.CommitFault.{CommitFault}
 use Rattle.book.specs.declared.faults.Prepared.{Prepared}
 use Rattle.session_runner.specs.Holding.{AreHeld, IsDriver, kept_in}
 use Rattle.session_runner.proofs.Finishing.{finished, finishes, may_release, not_stale, stale_finish, stands}
+use Rattle.session_runner.proofs.Handing.{added_hands_none}
 use Rattle.session_runner.proofs.Holding.{given_up, kept_set}
 use Rattle.session_runner.proofs.Clients.{added_stays, all_stay, stays_on}
 use Rattle.std.proofs.lemmas.List.{length-set}
-use Rattle.session_runner.proofs.Lines.{declined, on_ok}
+use Rattle.std.proofs.lemmas.Result.{on_ok_weaker}
+use Rattle.session_runner.proofs.Lines.{declined}
 use Rattle.session_runner.proofs.Taking.{stale_why}
 use Rattle.session_runner.proofs.driver.Driver.finish.Goals as goal
 
 pub returns-in_default-clause-driver : goal.returns-in_default-clause-driver
 returns-in_default-clause-driver g c =
     let holds = c.args.self.now.holds.items in
-    on_ok c.decline.result
+    on_ok_weaker c.decline.result
     (λ is. let d = declined c.args.self.now c.decline.new.self (Some c.args.number) c.args.session Nothing c.requires.driver is in
-    record { alone = d.alone; held = subst (λ (hs : List (Option Prepared)). AreHeld hs c.decline.new.self.journal) (sym c.in_default.ensures.now) (given_up holds c.decline.new.self.journal c.args.session c.requires.session d.held); clients = d.clients; many = d.many ∙ sym (ap length c.in_default.ensures.now ∙ length-set holds c.args.session None) })
+    record { alone = d.alone; held = subst (λ (hs : List (Option Prepared)). AreHeld hs c.decline.new.self.journal) (sym c.in_default.ensures.now) (given_up holds c.decline.new.self.journal c.args.session c.requires.session d.held); clients = d.clients; many = d.many ∙ sym (ap length c.in_default.ensures.now ∙ length-set holds c.args.session None); handed = d.handed })
     c.decline.ensures.ok
 
 pub returns-in_default-clause-gives : goal.returns-in_default-clause-gives
-returns-in_default-clause-gives g c = on_ok c.decline.result (λ is. ap kept_in c.in_default.ensures.now ∙ kept_set c.args.self.now.holds.items c.args.session None c.requires.session) c.decline.ensures.ok
+returns-in_default-clause-gives g c = on_ok_weaker c.decline.result (λ is. ap kept_in c.in_default.ensures.now ∙ kept_set c.args.self.now.holds.items c.args.session None c.requires.session) c.decline.ensures.ok
 
 pub commit-requires-clause-seat : goal.commit-requires-clause-seat
 commit-requires-clause-seat g c = sym (c.requires.driver.held.stands c.args.session c.in-Some.prepared c.in-Some.ensures.was).seat_is
@@ -60,6 +62,7 @@ returns-in-Ok-clause-driver g c = record {
       c.give_up.new.holds.items c.in-Some.ensures.now;
   clients = all_stay c.args.self.now.clients.items c.args.self.now.book.journal c.release.new.self.journal (stays_on c.args.self.now.book.journal c.commit.new.self.journal c.release.new.self.journal (added_stays c.args.self.now.book c.commit.new.self 0 (Some c.args.number) _ c.in-Ok.ensures.ok.1 refl) (added_stays c.commit.new.self c.release.new.self 0 (Some c.args.number) _ c.in-Ok-release.ensures.ok.2 refl)) c.requires.driver.clients;
   many = c.requires.driver.many ∙ sym (ap length c.in-Some.ensures.now ∙ length-set c.args.self.now.holds.items c.args.session None);
+  handed = c.requires.driver.handed ∙ sym (added_hands_none (λ e. true) c.commit.new.self c.release.new.self 0 (Some c.args.number) _ c.in-Ok-release.ensures.ok.2 refl ∙ added_hands_none (λ e. true) c.args.self.now.book c.commit.new.self 0 (Some c.args.number) _ c.in-Ok.ensures.ok.1 refl);
 }
 
 pub decline-requires-in-Err-Stale : goal.decline-requires-in-Err-Stale
@@ -73,19 +76,19 @@ pub returns-in-Err-Stale-clause-finishes : goal.returns-in-Err-Stale-clause-fini
 returns-in-Err-Stale-clause-finishes g c =
     let p = c.in-Some.prepared in let old = c.args.self.now.book.journal in
     let e = subst (λ (f : CommitFault). MayNotCommit old p f) c.in-Err-Stale.field-0-is c.in-Err-Stale.ensures.refused in
-    on_ok c.decline-in-Err-Stale.result
+    on_ok_weaker c.decline-in-Err-Stale.result
     (λ is. stale_finish (Some c.args.number) c.args.session c.args.self.now p c.requires.driver c.requires.session c.in-Some.ensures.was c.in-Err-Stale.stale c.decline-in-Err-Stale.new.self.journal e
     (ap (λ (b : Shown). b.journal) is ∙ ap (λ (b : Shown). b.journal ++ entry_by 0 (Some c.args.number) (Declined c.args.session (IsStale c.in-Err-Stale.stale)) ∷ []) c.in-Err-Stale.ensures.kept))
     c.decline-in-Err-Stale.ensures.ok
 
 pub returns-in-Err-Stale-clause-gives : goal.returns-in-Err-Stale-clause-gives
-returns-in-Err-Stale-clause-gives g c = on_ok c.decline-in-Err-Stale.result (λ is. ap kept_in c.in-Some.ensures.now ∙ kept_set c.args.self.now.holds.items c.args.session None c.requires.session) c.decline-in-Err-Stale.ensures.ok
+returns-in-Err-Stale-clause-gives g c = on_ok_weaker c.decline-in-Err-Stale.result (λ is. ap kept_in c.in-Some.ensures.now ∙ kept_set c.args.self.now.holds.items c.args.session None c.requires.session) c.decline-in-Err-Stale.ensures.ok
 
 pub returns-in-Err-Stale-clause-driver : goal.returns-in-Err-Stale-clause-driver
 returns-in-Err-Stale-clause-driver g c =
     let holds = c.args.self.now.holds.items in let new = c.decline-in-Err-Stale.new.self in
-    on_ok c.decline-in-Err-Stale.result
+    on_ok_weaker c.decline-in-Err-Stale.result
     (λ is. let d = declined c.args.self.now new (Some c.args.number) c.args.session (IsStale c.in-Err-Stale.stale) c.requires.driver
     (is ∙ ap (λ (b : Shown). adds b 0 (Some c.args.number) (Declined c.args.session (IsStale c.in-Err-Stale.stale) ∷ [])) c.in-Err-Stale.ensures.kept) in
-    record { alone = d.alone; held = subst (λ (hs : List (Option Prepared)). AreHeld hs new.journal) (sym c.in-Some.ensures.now) (given_up holds new.journal c.args.session c.requires.session d.held); clients = d.clients; many = d.many ∙ sym (ap length c.in-Some.ensures.now ∙ length-set holds c.args.session None) })
+    record { alone = d.alone; held = subst (λ (hs : List (Option Prepared)). AreHeld hs new.journal) (sym c.in-Some.ensures.now) (given_up holds new.journal c.args.session c.requires.session d.held); clients = d.clients; many = d.many ∙ sym (ap length c.in-Some.ensures.now ∙ length-set holds c.args.session None); handed = d.handed })
     c.decline-in-Err-Stale.ensures.ok

@@ -1,4 +1,4 @@
-use Rattle.std.proofs.Common.{◌≡◌, ◌∙◌, ◌∷◌, ◌++◌, ℕ, List, length, [], Some, None, refl, sym, ap, subst}
+use Rattle.std.proofs.Common.{◌≡◌, ◌∙◌, ◌∷◌, ◌++◌, ℕ, List, length, [], Some, None, true, refl, sym, ap, subst}
 use Rattle.std.specs.Prelude.{Option, option_and_then}
 use Rattle.expiring_lock.specs.declared.refusal.Busy.{Busy as IsBusy}
 use Rattle.dup_check.specs.declared.snapshot.Snapshot.{Snapshot}
@@ -15,8 +15,10 @@ use Rattle.session_runner.specs.Holding.{AreHeld, kept, kept_in}
 use Rattle.session_runner.proofs.Apart.{same_clients, wrote}
 use Rattle.session_runner.proofs.Clients.{all_stay}
 use Rattle.std.proofs.lemmas.List.{length-set}
+use Rattle.std.proofs.lemmas.Result.{on_ok_weaker}
+use Rattle.session_runner.proofs.Handing.{apart_hands_none}
 use Rattle.session_runner.proofs.Holding.{kept_set, taken_up}
-use Rattle.session_runner.proofs.Lines.{declined, holds_already, holds_taken, holds_unnamed, holds_why, keeps_none, keeps_some, on_ok}
+use Rattle.session_runner.proofs.Lines.{declined, holds_already, holds_taken, holds_unnamed, holds_why, keeps_none, keeps_some}
 use Rattle.dispatcher.proofs.Taking.{takes, token_taken}
 use Rattle.session_runner.proofs.Taking.{empty_why, held_up, holdable, none_waits, stands_taken}
 use Rattle.session_runner.proofs.driver.Driver.hold.Goals as goal
@@ -24,24 +26,24 @@ use Rattle.session_runner.proofs.driver.Driver.hold.Goals as goal
 pub returns-then-is_kept-clause-holds : goal.returns-then-is_kept-clause-holds
 returns-then-is_kept-clause-holds g c =
     let holds = c.args.self.now.holds.items in
-    on_ok c.decline.result
+    on_ok_weaker c.decline.result
     (λ is. holds_already (entry_by 0 (Some c.args.number)) c.args.session c.args.doc.now (kept_in holds c.args.session) (kept_in holds) c.args.self.now.book.journal c.decline.new.self.journal
     (keeps_some holds c.args.session c.is_kept.result c.requires.session c.is_kept.ensures c.if-is_kept.true) (ap (λ (b : Shown). b.journal) is))
     c.decline.ensures.ok
 
 pub returns-then-is_kept-clause-driver : goal.returns-then-is_kept-clause-driver
-returns-then-is_kept-clause-driver g c = on_ok c.decline.result (λ is. declined c.args.self.now c.decline.new.self (Some c.args.number) c.args.session Holding c.requires.driver is) c.decline.ensures.ok
+returns-then-is_kept-clause-driver g c = on_ok_weaker c.decline.result (λ is. declined c.args.self.now c.decline.new.self (Some c.args.number) c.args.session Holding c.requires.driver is) c.decline.ensures.ok
 
 pub returns-in_default-clause-holds : goal.returns-in_default-clause-holds
 returns-in_default-clause-holds g c =
     let holds = c.args.self.now.holds.items in
-    on_ok c.decline-in_default.result
+    on_ok_weaker c.decline-in_default.result
     (λ is. holds_unnamed (entry_by 0 (Some c.args.number)) c.args.session c.args.doc.now (kept_in holds c.args.session) (kept_in holds) c.args.self.now.book.journal c.decline-in_default.new.self.journal
     (ap (option_and_then kept) (keeps_none holds c.args.session c.is_kept.result c.requires.session c.is_kept.ensures c.if-is_kept.false)) (sym c.find.ensures ∙ c.in_default.is) (ap (λ (b : Shown). b.journal) is))
     c.decline-in_default.ensures.ok
 
 pub returns-in_default-clause-driver : goal.returns-in_default-clause-driver
-returns-in_default-clause-driver g c = on_ok c.decline-in_default.result (λ is. declined c.args.self.now c.decline-in_default.new.self (Some c.args.number) c.args.session NoDoc c.requires.driver is) c.decline-in_default.ensures.ok
+returns-in_default-clause-driver g c = on_ok_weaker c.decline-in_default.result (λ is. declined c.args.self.now c.decline-in_default.new.self (Some c.args.number) c.args.session NoDoc c.requires.driver is) c.decline-in_default.ensures.ok
 
 pub returns-in_ok-prepare-in-Ok-clause-holds : goal.returns-in_ok-prepare-in-Ok-clause-holds
 returns-in_ok-prepare-in-Ok-clause-holds g c =
@@ -77,12 +79,13 @@ returns-in_ok-prepare-in-Ok-clause-driver g c =
           (stands_taken 0 line doc old new look is was.looks.0 was.looks.2 p look_is refl was.free was.cached c.in_ok-prepare-in-Ok.ensures.decided));
       clients = all_stay c.args.self.now.clients.items old new (same_clients (next_token old) old new (returns-in_ok-prepare-in-Ok-clause-apart g c)) c.requires.driver.clients;
       many = c.requires.driver.many ∙ sym (ap length c.keep.ensures ∙ length-set holds session (Some p));
+      handed = c.requires.driver.handed ∙ sym (apart_hands_none (λ e. true) (next_token old) old new (returns-in_ok-prepare-in-Ok-clause-apart g c));
     }
 
 pub returns-in-Err-Empty-clause-holds : goal.returns-in-Err-Empty-clause-holds
 returns-in-Err-Empty-clause-holds g c =
     let holds = c.args.self.now.holds.items in let old = c.args.self.now.book.journal in let doc = c.in-Some.doc in
-    on_ok c.decline-in-Err-Empty.result
+    on_ok_weaker c.decline-in-Err-Empty.result
     (λ is. holds_why (entry_by 0 (Some c.args.number)) c.args.session c.args.doc.now (kept_in holds c.args.session) (kept_in holds) old c.decline-in-Err-Empty.new.self.journal doc Empty
     (ap (option_and_then kept) (keeps_none holds c.args.session c.is_kept.result c.requires.session c.is_kept.ensures c.if-is_kept.false)) (sym c.find.ensures ∙ c.in-Some.is)
     (empty_why doc old (none_waits doc old (sym (ap told c.in-Err-Empty.field-0-is) ∙ c.in-Err-Empty.ensures.refused)))
@@ -91,13 +94,13 @@ returns-in-Err-Empty-clause-holds g c =
 
 pub returns-in-Err-Empty-clause-driver : goal.returns-in-Err-Empty-clause-driver
 returns-in-Err-Empty-clause-driver g c =
-    on_ok c.decline-in-Err-Empty.result (λ is. declined c.args.self.now c.decline-in-Err-Empty.new.self (Some c.args.number) c.args.session Empty c.requires.driver
+    on_ok_weaker c.decline-in-Err-Empty.result (λ is. declined c.args.self.now c.decline-in-Err-Empty.new.self (Some c.args.number) c.args.session Empty c.requires.driver
     (is ∙ ap (λ (b : Shown). adds b 0 (Some c.args.number) (Declined c.args.session Empty ∷ [])) c.in-Err-Empty.ensures.kept)) c.decline-in-Err-Empty.ensures.ok
 
 pub returns-in-Err-Busy-clause-holds : goal.returns-in-Err-Busy-clause-holds
 returns-in-Err-Busy-clause-holds g c =
     let holds = c.args.self.now.holds.items in let old = c.args.self.now.book.journal in let doc = c.in-Some.doc in let b = c.in-Err-Busy.busy in
-    on_ok c.decline-in-Err-Busy.result
+    on_ok_weaker c.decline-in-Err-Busy.result
     (λ is. holds_why (entry_by 0 (Some c.args.number)) c.args.session c.args.doc.now (kept_in holds c.args.session) (kept_in holds) old c.decline-in-Err-Busy.new.self.journal doc (Busy b)
     (ap (option_and_then kept) (keeps_none holds c.args.session c.is_kept.result c.requires.session c.is_kept.ensures c.if-is_kept.false)) (sym c.find.ensures ∙ c.in-Some.is)
     (held_up doc old b (sym (ap told c.in-Err-Busy.field-0-is) ∙ c.in-Err-Busy.ensures.refused)).2
@@ -107,6 +110,6 @@ returns-in-Err-Busy-clause-holds g c =
 
 pub returns-in-Err-Busy-clause-driver : goal.returns-in-Err-Busy-clause-driver
 returns-in-Err-Busy-clause-driver g c =
-    on_ok c.decline-in-Err-Busy.result (λ is. declined c.args.self.now c.decline-in-Err-Busy.new.self (Some c.args.number) c.args.session (Busy c.in-Err-Busy.busy) c.requires.driver
+    on_ok_weaker c.decline-in-Err-Busy.result (λ is. declined c.args.self.now c.decline-in-Err-Busy.new.self (Some c.args.number) c.args.session (Busy c.in-Err-Busy.busy) c.requires.driver
     (is ∙ ap (λ (b : IsBusy). adds c.acquire.new.self 0 (Some c.args.number) (Declined c.args.session (Busy b) ∷ [])) c.in-Err-Busy.busy-is
     ∙ ap (λ (b : Shown). adds b 0 (Some c.args.number) (Declined c.args.session (Busy c.in-Err-Busy.busy) ∷ [])) c.in-Err-Busy.ensures.kept)) c.decline-in-Err-Busy.ensures.ok

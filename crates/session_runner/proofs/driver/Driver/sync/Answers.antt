@@ -1,12 +1,13 @@
 use Rattle.std.proofs.Common.{◌≡◌, ◌<◌, refl, sym, ap, subst}
 use Rattle.std.specs.Prelude.{slice_get, Some}
 use Rattle.std.specs.Vec.{with_item}
+use Rattle.std.proofs.lemmas.Result.{on_ok_weaker}
 use Rattle.journal_rules.specs.Locks.{next_token}
 use Rattle.run_rules.specs.Lines.{Syncs}
 use Rattle.turn_rules.specs.Turns.{Alone, entry_by}
 use Rattle.book.specs.Shown.{Shown}
 use Rattle.session_runner.specs.Syncing.{GoesApartThenQuietly}
-use Rattle.session_runner.proofs.Lines.{both_ok, on_ok}
+use Rattle.session_runner.proofs.Lines.{both_ok}
 use Rattle.session_runner.proofs.Owning.{get_there, synced_driver}
 use Rattle.session_runner.proofs.driver.Driver.sync.Goals as goal
 
@@ -16,7 +17,7 @@ returns-clause-syncs g c =
     let j = c.args.self.now.book.journal in
     let at : slice_get c.args.self.now.clients.items c.args.session ≡ Some was = get_there c.args.self.now.clients.items c.args.session was (subst (λ n. c.args.session < n) (sym c.requires.driver.many) c.requires.session) c.in-Some.ensures.value in
     let number = (c.requires.driver.clients.each c.args.session was at).0 in
-    on_ok c.sync_client.result (λ g. subst (λ n. Syncs (entry_by 0 c.args.by.line) Alone n j c.sync_client.new.book.journal) number g) c.sync_client.ensures.syncs
+    on_ok_weaker c.sync_client.result (λ g. subst (λ n. Syncs (entry_by 0 c.args.by.line) Alone n j c.sync_client.new.book.journal) number g) c.sync_client.ensures.syncs
 
 pub returns-clause-driver : goal.returns-clause-driver
 returns-clause-driver g c =
@@ -24,7 +25,7 @@ returns-clause-driver g c =
     let j = c.args.self.now.book.journal in
     let at : slice_get c.args.self.now.clients.items c.args.session ≡ Some was = get_there c.args.self.now.clients.items c.args.session was (subst (λ n. c.args.session < n) (sym c.requires.driver.many) c.requires.session) c.in-Some.ensures.value in
     let number = (c.requires.driver.clients.each c.args.session was at).0 in
-    on_ok c.sync_client.result (λ g. synced_driver c.args.self.now (record c.args.self.now { book = c.sync_client.new.book; clients = with_item c.args.self.now.clients c.args.session c.sync_client.new.client }) c.args.session was c.sync_client.new.client c.requires.driver at refl refl (ap (λ (b : Shown). b.drivers) g.0)
+    on_ok_weaker c.sync_client.result (λ g. synced_driver c.args.self.now (record c.args.self.now { book = c.sync_client.new.book; clients = with_item c.args.self.now.clients c.args.session c.sync_client.new.client }) c.args.session was c.sync_client.new.client c.requires.driver at refl refl refl (ap (λ (b : Shown). b.drivers) g.0)
     (subst (λ n. GoesApartThenQuietly (next_token j) n j c.sync_client.new.book.journal) number g.1.0) g.1.1)
     (both_ok _ _ c.sync_client.result c.sync_client.ensures.rest (both_ok _ _ c.sync_client.result c.sync_client.ensures.goes c.sync_client.ensures.client))
 
@@ -34,4 +35,4 @@ returns-clause-goes g c =
     let j = c.args.self.now.book.journal in
     let at : slice_get c.args.self.now.clients.items c.args.session ≡ Some was = get_there c.args.self.now.clients.items c.args.session was (subst (λ n. c.args.session < n) (sym c.requires.driver.many) c.requires.session) c.in-Some.ensures.value in
     let number = (c.requires.driver.clients.each c.args.session was at).0 in
-    on_ok c.sync_client.result (λ g. subst (λ n. GoesApartThenQuietly (next_token j) n j c.sync_client.new.book.journal) number g) c.sync_client.ensures.goes
+    on_ok_weaker c.sync_client.result (λ g. subst (λ n. GoesApartThenQuietly (next_token j) n j c.sync_client.new.book.journal) number g) c.sync_client.ensures.goes
