@@ -18,7 +18,8 @@ use Rattle.journal_laws.proofs.Unmade.{unmade_waits}
 use Rattle.project_histories.proofs.Lists.{none_passes}
 use Rattle.book.specs.declared.document.Document.{Document}
 use Rattle.book.specs.Standing.{AreDocuments, IsKeptAs, IsNew, IsQueued, Turns, one_for, owed_for}
-use Rattle.book.specs.Shown.{IsBook, names_in, driver_count, unclosed}
+use Rattle.book.specs.Shown.{IsBook, names_in, unclosed}
+use Rattle.turn_rules.specs.Owning.{driver_count}
 use Rattle.book.proofs.Owed.{owed_set, owed_push, closing, open_counts, none_closed}
 use Rattle.book.proofs.Keeping.{Passes, kept_quiet, kept_set, kept_made, kept_none, here_sent}
 

@@ -27,7 +27,8 @@ use Rattle.book.specs.Passing.{past_or_none}
 use Rattle.book.specs.Looking.{IsLook, IsLookAt, window_of}
 use Rattle.book.specs.Deciding.{Becomes, IsSame}
 use Rattle.book.specs.Standing.{AreDocuments, IsDocument, IsFreed, IsLocked, IsUnqueued, Turns, lock_in, one_for, owed_by, owed_for}
-use Rattle.book.specs.Shown.{IsBook, driver_count, unclosed}
+use Rattle.book.specs.Shown.{IsBook, unclosed}
+use Rattle.turn_rules.specs.Owning.{driver_count}
 use Rattle.journal_entries.specs.declared.update.Cause.{Cause}
 use Rattle.journal_entries.specs.declared.update.Cause.TheVariants.{Memory as WantsMemory, StoreFault}
 use Rattle.journal_rules.specs.Keeping.{FailedUnder, loading}

@@ -40,7 +40,8 @@ use Rattle.dup_check.specs.Window.{Recent}
 use Rattle.ranges_tracker.specs.declared.change.Change.{Change}
 use Rattle.ranges_tracker.specs.declared.comment.Comment.{Comment}
 use Rattle.ranges_tracker.specs.Agree.{IsSince}
-use Rattle.book.specs.Shown.{IsBook, driver_count, unclosed}
+use Rattle.book.specs.Shown.{IsBook, unclosed}
+use Rattle.turn_rules.specs.Owning.{driver_count}
 use Rattle.book.proofs.Booking.{no_name, push_book}
 use Rattle.book.proofs.Fenced.{IsUnder, last_stays, under}
 use Rattle.book.proofs.Keeping.{Passes, here_flushed, kept_set}

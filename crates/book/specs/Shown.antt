@@ -1,11 +1,12 @@
 -- What contracts see of a book: its journal, the number of its drivers and its keeper; and what holds of its fields.
-use Rattle.std.specs.Prelude.{◌≡◌, ℕ, zero, suc, ◌+◌, ◌≤◌, ◌==◌, Bool, List, ◌++◌, length, map, Option, if◌then◌else◌}
+use Rattle.std.specs.Prelude.{◌≡◌, ℕ, zero, suc, ◌+◌, ◌≤◌, Bool, List, ◌++◌, length, map, Option, if◌then◌else◌}
 use Rattle.journal_entries.specs.Journals.{Journaled, entries, spare}
 use Rattle.journal_entries.specs.declared.act.Act.{Act}
 use Rattle.journal_entries.specs.declared.act.Entry.{Entry}
 use Rattle.journal_rules.specs.Documents.{Making, is_in, makings}
 use Rattle.journal_rules.specs.Locks.{acquirings, clock}
 use Rattle.journal_rules.specs.Legal.{clock_end, closed}
+use Rattle.turn_rules.specs.Owning.{IsOwned, driver_count}
 use Rattle.turn_rules.specs.Turns.{entry_by}
 use Rattle.book.specs.declared.document.Document.{Document}
 use Rattle.rooms.specs.Rooms.{Roomed}
@@ -22,10 +23,6 @@ pub record Shown : Type 0 where
   pub documents : List (List ℕ × Kept)
   pub faults : ℕ
   pub start : ℕ
-
--- a run on one thread has one driver
-abbrev pub driver_count : ℕ → ℕ
-driver_count drivers = if drivers == 0 then 1 else drivers
 
 -- how many drivers haven't closed
 abbrev pub unclosed : ℕ → List ℕ → ℕ
@@ -46,12 +43,13 @@ pub record IsBook (journal : Journaled) (names : List (List ℕ)) (documents : L
   pub counted : owed_for documents + unclosed (driver_count drivers) (closed (entries journal)) ≤ owed
   pub room : owed ≤ spare journal
 
--- and so do its rooms, the histories of its projects, and its keeper
+-- and so do its rooms, the histories of its projects, and its keeper; and each entry of a client and each closing is by its owner
 pub record IsBookWithKeeper (journal : Journaled) (names : List (List ℕ)) (documents : List Document) (rooms : Roomed) (projects : Histories) (now tokens owed drivers : ℕ) (tells : Bool) (stored : List (List ℕ × Kept)) (count start : ℕ) : Type 0 where
   pub book : IsBook journal names documents now tokens owed drivers
   pub roomed : AreRoomed rooms (entries journal)
   pub histories : AreHistories projects (entries journal)
   pub keeps : IsKeeping tells stored count start (entries journal)
+  pub owned : IsOwned drivers (entries journal)
 
 -- a book with these entries more, by a seat, for a line or for none
 abbrev pub adds : Shown → ℕ → Option ℕ → List Act → Shown

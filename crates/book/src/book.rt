@@ -9,7 +9,8 @@ ghost use Rattle.journal_rules.specs.Deciding.{longest};
 ghost use Rattle.journal_rules.specs.Locks.{clock};
 ghost use Rattle.journal_rules.specs.Legal.{IsLegal, IsRaw, closed, clock_end, highest_base};
 ghost use Rattle.journal_rules.specs.Whys.{IsWhy};
-ghost use Rattle.book.specs.Shown.{adds, driver_count};
+ghost use Rattle.book.specs.Shown.{adds};
+ghost use Rattle.turn_rules.specs.Owning.{driver_count, driver_owner};
 ghost use Rattle.book.specs.Calls.{existing, MayNotTick, MayNotSend, raw_act, ticket_of_raw, update_by};
 ghost use Rattle.book.specs.Standing.{IsNew};
 ghost use Rattle.source_sink.specs.Causes.{Rose};
@@ -220,6 +221,7 @@ impl<K: Keeper> Book<K> {
     pub fn close_driver(&mut self, by: By, driver: u32)
         requires one { driver < driver_count self.old.drivers }
         requires once { is_in driver (closed self.old.journal) ≡ false }
+        requires owner { by.seat ≡ driver_owner self.old.drivers driver }
         ensures { self.new ≡ adds self.old by.seat by.line (Closed driver ∷ []) }
     {
         self.journal.push(entry_of(by, Act::Closed { driver }));

@@ -8,6 +8,7 @@ ghost use Rattle.journal_rules.specs.Locks.{clock};
 ghost use Rattle.journal_rules.specs.Mail.{mail};
 ghost use Rattle.journal_rules.specs.Client.{update_from};
 ghost use Rattle.turn_rules.specs.Clients.{is_present};
+ghost use Rattle.turn_rules.specs.Owning.{MayWriteFor};
 ghost use Rattle.share_client.specs.Clients.{again_fault, send_fault, told_send};
 ghost use Rattle.share_client.specs.Edits.{IsEdit, IsRefusal, edit_comp, edit_fault, edit_length};
 ghost use Rattle.book.specs.Shown.{adds};
@@ -38,7 +39,8 @@ impl<K: Keeper> Book<K> {
         user: &Name,
         track: bool,
     ) -> Result<(), JoinFault>
-        requires { IsClientOf self.old.journal client.old }
+        requires client { IsClientOf self.old.journal client.old }
+        requires owner { MayWriteFor self.old.drivers self.old.journal by.seat client.old.client }
         ensures ok { OnOk result (IsMade doc self.old.journal × (self.new ≡ adds self.old by.seat by.line (Joined client.old.client doc user.now track None (source_at self.old.journal) (version doc self.old.journal) ∷ []))) }
         ensures client { IsClientAfter self.new.journal client.old client.new }
         ensures refused { IfErr result (λ f. MayNotJoin doc self.old.journal f) }
@@ -82,6 +84,7 @@ impl<K: Keeper> Book<K> {
     /// A client edits its text. It's refused as [`ShareClient::edit`] refuses it.
     pub fn edit(&mut self, by: By, client: &mut ShareClient, edit: &Edit) -> Result<(), EditFault>
         requires client { IsClientOf self.old.journal client.old }
+        requires owner { MayWriteFor self.old.drivers self.old.journal by.seat client.old.client }
         requires edit { IsEdit edit.now }
         ensures ok { OnOk result ((edit_fault client.old.now edit.now ≡ None) × (self.new ≡ adds self.old by.seat by.line (Edited client.old.client (edit_comp client.old.now.text edit.now) ∷ []))) }
         ensures client { IsClientAfter self.new.journal client.old client.new }
@@ -106,7 +109,8 @@ impl<K: Keeper> Book<K> {
     /// A client sends what is pending, and the ticket is answered. It's refused as
     /// [`ShareClient::take_send`] refuses it.
     pub fn send(&mut self, by: By, client: &mut ShareClient) -> Result<u64, SendFault>
-        requires { IsClientOf self.old.journal client.old }
+        requires client { IsClientOf self.old.journal client.old }
+        requires owner { MayWriteFor self.old.drivers self.old.journal by.seat client.old.client }
         ensures ticket { IfOk result (λ t. t ≡ length self.old.journal) }
         ensures ok { OnOk result ((send_fault client.old.now ≡ None)
             × (self.new ≡ adds self.old by.seat by.line (Sent (update_from client.old.client client.old.now (clock self.old.journal) (client.old.now.number + 1) client.old.now.pending []) ∷ []))) }
@@ -138,7 +142,8 @@ impl<K: Keeper> Book<K> {
     /// A client sends what is in flight again, under the same number, and the ticket is answered.
     /// It's refused as [`ShareClient::send_again`] refuses it.
     pub fn resend(&mut self, by: By, client: &mut ShareClient) -> Result<u64, SendFault>
-        requires { IsClientOf self.old.journal client.old }
+        requires client { IsClientOf self.old.journal client.old }
+        requires owner { MayWriteFor self.old.drivers self.old.journal by.seat client.old.client }
         ensures ticket { IfOk result (λ t. t ≡ length self.old.journal) }
         ensures ok { OnOk result ((again_fault client.old.now ≡ None)
             × (self.new ≡ adds self.old by.seat by.line (Sent (update_from client.old.client client.old.now (clock self.old.journal) client.old.now.number (unwrap_or client.old.now.flight []) client.old.now.sources) ∷ []))) }
@@ -170,7 +175,8 @@ impl<K: Keeper> Book<K> {
     /// A client gets the first message of its mail, which is answered, or `None` where its mail is
     /// empty.
     pub fn receive(&mut self, by: By, client: &mut ShareClient) -> Result<Option<Msg>, AllocError>
-        requires { IsClientOf self.old.journal client.old }
+        requires client { IsClientOf self.old.journal client.old }
+        requires owner { MayWriteFor self.old.drivers self.old.journal by.seat client.old.client }
         ensures first { IfOk result (λ m. m ≡ slice_get (mail client.old.client self.old.journal) 0) }
         ensures got { IfOk result (λ m. IfSome m (λ msg. self.new ≡ adds self.old by.seat by.line (Got client.old.client (brief_of msg) ∷ []))) }
         ensures none { IfOk result (λ m. m ≡ None → (self.new ≡ self.old) × (client.new ≡ client.old)) }
@@ -207,7 +213,8 @@ impl<K: Keeper> Book<K> {
     /// A client leaves its document and the document's room, where it's told of nothing more. A
     /// stale client stays stale.
     pub fn leave(&mut self, by: By, client: &mut ShareClient) -> Result<(), LeaveFault>
-        requires { IsClientOf self.old.journal client.old }
+        requires client { IsClientOf self.old.journal client.old }
+        requires owner { MayWriteFor self.old.drivers self.old.journal by.seat client.old.client }
         ensures ok { OnOk result ((is_present client.old.now.state ≡ true) × (self.new ≡ adds self.old by.seat by.line (Left client.old.client ∷ []))) }
         ensures client { IsClientAfter self.new.journal client.old client.new }
         ensures refused { IfErr result (λ f. MayNotLeave client.old.now.state f) }

@@ -82,6 +82,7 @@ impl<K: Keeper> Book<K> {
         requires decided { IsDecided prepared.look prepared.decision }
         ensures ok { OnOk result ((staleness prepared.look.doc prepared.look.token self.old.journal ≡ None)
             × (self.new ≡ adds self.old by.seat by.line (Committed prepared.look.doc prepared.look.token prepared.look.ticket (decided self.old.journal prepared.look.doc prepared.look.update) ∷ []))) }
+        ensures cached { OnOk result (cached prepared.look.doc self.old.journal ≡ true) }
         ensures refused { IfErr result (λ f. MayNotCommit self.old.journal prepared f) }
         ensures kept { OnErr result (self.new ≡ self.old) }
     {

@@ -1,17 +1,20 @@
 //! What is true of books, of their clients and of looks. The functions here do nothing: their contracts are the laws.
 
-ghost use Rattle.std.specs.Prelude.{◌≡◌, ℕ, List, ◌++◌, true, None, All};
+ghost use Rattle.std.specs.Prelude.{◌≡◌, ℕ, List, ◌++◌, true, false, None, All};
 ghost use Rattle.dup_check.specs.declared.snapshot.Snapshot.{Snapshot};
 ghost use Rattle.dup_check.specs.declared.snapshot.Decision.{Decision};
 ghost use Rattle.dup_check.specs.Snapshot.{outcome_of};
 ghost use Rattle.journal_entries.specs.declared.act.Entry.{Entry};
 ghost use Rattle.journal_rules.specs.Deciding.{decided};
-ghost use Rattle.journal_rules.specs.Legal.{IsLegal};
+ghost use Rattle.journal_rules.specs.Documents.{is_in};
+ghost use Rattle.journal_rules.specs.Legal.{IsLegal, closed};
 ghost use Rattle.journal_entries.specs.declared.update.Cause.TheVariants.{Memory};
 ghost use Rattle.journal_laws.specs.ClientLaw.{Shows};
-ghost use Rattle.journal_rules.specs.Client.{is_alive};
+ghost use Rattle.journal_rules.specs.Client.{client as client_lem, is_alive};
 ghost use Rattle.journal_rules.specs.Locks.{Holds};
 ghost use Rattle.turn_rules.specs.Locking.{staleness};
+ghost use Rattle.turn_rules.specs.Owning.{IsOwned, client_driver, client_owner, driver_owner};
+ghost use Rattle.turn_rules.specs.Turns.{Among, is_by};
 ghost use Rattle.book.specs.Calls.{MayRefuse};
 ghost use Rattle.book.specs.Flushing.{IsKeptLook, IsMadeOf, IsPreparedFor};
 ghost use Rattle.book.specs.declared.faults.KeptLook.{KeptLook};
@@ -57,6 +60,24 @@ impl<K: Keeper> Book<K> {
     /// The journal of a book is legal. Does nothing.
     pub fn legal(&self)
         ensures { IsLegal self.now.journal }
+    {
+        let _ = &self.journal;
+    }
+
+    /// Each entry of a client is by the client's owner, or by seat 0 behind the last closing of a driver;
+    /// and each driver is closed by its owner. Does nothing.
+    pub fn owned(&self)
+        ensures { IsOwned self.now.drivers self.now.journal }
+    {
+        let _ = &self.journal;
+    }
+
+    /// An owner whose driver hasn't closed knows all entries of its clients as its own: where the journal
+    /// has gone on by entries of others from what the owner saw, the driver hasn't closed, and its clients
+    /// are what they were. Does nothing.
+    pub fn owner_knows(&self)
+        ensures unclosed { (driver : ℕ) (seen : List Entry) → Among (is_by (driver_owner self.now.drivers driver)) seen self.now.journal → is_in driver (closed seen) ≡ false → is_in driver (closed self.now.journal) ≡ false }
+        ensures clients { (c : ℕ) (seen : List Entry) → Among (is_by (client_owner self.now.drivers c)) seen self.now.journal → is_in (client_driver self.now.drivers c) (closed seen) ≡ false → client_lem c self.now.journal ≡ client_lem c seen }
     {
         let _ = &self.journal;
     }

@@ -2,6 +2,7 @@
 
 ghost use Rattle.std.specs.Prelude.{◌≡◌, ◌∷◌, [], IfOk, IfErr, OnOk, OnErr};
 ghost use Rattle.turn_rules.specs.Clients.{back_act};
+ghost use Rattle.turn_rules.specs.Owning.{MayWriteFor};
 ghost use Rattle.book.specs.Calls.{MayNotRejoin, MayReturn};
 ghost use Rattle.book.specs.Passing.{missed_by};
 ghost use Rattle.book.specs.Roomed.{IsClientAfter, IsClientOf};
@@ -23,7 +24,8 @@ impl<K: Keeper> Book<K> {
     /// It's refused, the first that holds, with [`JoinFault::NotLeft`] where it hasn't left, and with
     /// [`JoinFault::TooOld`] where its version is more than 100 below the document's.
     pub fn rejoin(&mut self, by: By, client: &mut ShareClient) -> Result<(), JoinFault>
-        requires { IsClientOf self.old.journal client.old }
+        requires client { IsClientOf self.old.journal client.old }
+        requires owner { MayWriteFor self.old.drivers self.old.journal by.seat client.old.client }
         ensures ok { OnOk result (MayReturn client.old.now self.old.journal × (self.new ≡ adds self.old by.seat by.line (back_act client.old.client client.old.now self.old.journal ∷ []))) }
         ensures client { IsClientAfter self.new.journal client.old client.new }
         ensures refused { IfErr result (λ f. MayNotRejoin client.old.now self.old.journal f) }

@@ -11,7 +11,7 @@ use Rattle.journal_entries.specs.declared.update.Outcome.TheVariants.{Applied, D
 use Rattle.journal_entries.specs.declared.act.Act.{Act}
 use Rattle.journal_entries.specs.declared.act.Act.TheVariants.{Made, Ticked, Joined as JoinedAct, Edited, Sent, Malformed, Got, Left as LeftAct, Acquired, Loaded, LoadFailed, LoadDiffers, Committed, Released, Flushed, FlushFailed, Unloaded, Handed, Declined, Closed}
 use Rattle.journal_entries.specs.declared.act.Entry.{Entry}
-use Rattle.journal_rules.specs.Documents.{IsMade, Item, Making, applied_list, base, base_in, item_of, items_by, making, making_of, makings, update_at, version}
+use Rattle.journal_rules.specs.Documents.{IsMade, Item, Making, applied_list, base, base_in, item_of, items_by, making_of, makings, update_at, version}
 use Rattle.journal_rules.specs.Keeping.{cached, cached_by, kept, kept_by}
 use Rattle.journal_rules.specs.Legal.{IsAllowed, IsDecision, IsLegal, IsUnloadable}
 use Rattle.journal_rules.proofs.Fencing.{making_stays}

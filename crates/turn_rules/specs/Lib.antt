@@ -3,3 +3,4 @@ pub mod Locking
 pub mod Draining
 pub mod Flushing
 pub mod Clients
+pub mod Owning

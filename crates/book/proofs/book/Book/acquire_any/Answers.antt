@@ -22,6 +22,7 @@ use Rattle.book.proofs.Roomed.{roomed_quiet_by}
 use Rattle.project_histories.proofs.Histories.{histories_by}
 use Rattle.book.proofs.Stored.{keeps_by}
 use Rattle.book.proofs.Tokens.{acquirings_short}
+use Rattle.turn_rules.proofs.Owning.{own_other, owned_by}
 use Rattle.book.proofs.book.Book.acquire_any.Goals as goal
 
 pub returns-in-Some-busy-clause-refused : goal.returns-in-Some-busy-clause-refused
@@ -81,6 +82,7 @@ invariant_of-self-2 g c =
       roomed = roomed_quiet_by s.rooms (entries s.journal) (entries c.make_room.new.journal) (entries c.push.new.self) c.args.by.seat c.args.by.line (Acquired c.args.doc (s.tokens + 1) c.take-until.result) c.entry_of.result c.entry_of.ensures c.make_room.ensures.entries c.push.ensures.entries c.self.invariant.book.stands.legal tt refl (λ d. refl) c.self.invariant.roomed;
       keeps = keeps_by (entries s.journal) (entries c.make_room.new.journal) (entries c.push.new.self) c.args.by.seat c.args.by.line (Acquired c.args.doc (s.tokens + 1) c.take-until.result) c.entry_of.result c.entry_of.ensures c.make_room.ensures.entries c.push.ensures.entries (λ d o. refl) refl tt c.self.invariant.keeps;
       histories = histories_by s.projects (entries s.journal) (entries c.make_room.new.journal) (entries c.push.new.self) c.args.by.seat c.args.by.line (Acquired c.args.doc (s.tokens + 1) c.take-until.result) c.entry_of.result c.entry_of.ensures c.make_room.ensures.entries c.push.ensures.entries c.self.invariant.book.stands.legal refl (λ p. refl) (λ p. refl) c.self.invariant.histories;
+      owned = owned_by (entries s.journal) (entries c.make_room.new.journal) (entries c.push.new.self) c.args.by.seat c.args.by.line (Acquired c.args.doc (s.tokens + 1) c.take-until.result) c.entry_of.result c.entry_of.ensures c.make_room.ensures.entries c.push.ensures.entries (own_other (entries s.journal) c.args.by.seat (Acquired c.args.doc (s.tokens + 1) c.take-until.result) refl refl) c.self.invariant.owned;
     }
 
 pub returns-in_default-kept_look-clause-refused : goal.returns-in_default-kept_look-clause-refused

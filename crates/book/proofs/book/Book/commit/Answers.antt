@@ -18,6 +18,7 @@ use Rattle.book.proofs.Committing.{committed_book, committed_histories, decided_
 use Rattle.book.proofs.Locking.{told_by, told_unmade, held_owed, some_waits}
 use Rattle.project_histories.proofs.Histories.{histories_roomier, histories_same, of_some}
 use Rattle.book.proofs.Stored.{keeps_by}
+use Rattle.turn_rules.proofs.Owning.{own_other, owned_by}
 use Rattle.book.proofs.book.Book.commit.Goals as goal
 
 pub returns-then-at-len-clause-refused : goal.returns-then-at-len-clause-refused
@@ -73,6 +74,7 @@ invariant_of-self g c =
       roomed = c.self.invariant.roomed;
       keeps = c.self.invariant.keeps;
       histories = histories_roomier s.projects c.reserve_item.new.self (entries s.journal) c.args.prepared.look.doc c.reserve_item.ensures.same c.self.invariant.histories;
+      owned = c.self.invariant.owned;
     }
 
 pub push-requires : goal.push-requires
@@ -131,6 +133,7 @@ invariant_of-self-2 g c =
       histories = histories_same c.put_item.new.projects (j ++ c.entry_of.result ∷ []) (entries c.push.new.self) c.push.ensures.entries
           (committed_histories c.reserve_item.new.self c.put_item.new.projects j c.entry_of.result look c.args.prepared.decision c.in-Ok-Ok.item c.self.invariant.book.stands.legal of none (act ∙ ap (λ o. Committed look.doc look.token look.ticket o) c.settle-outcome.ensures.outcome)
           c.in-Ok-Ok.ensures' c.put_item.ensures (histories_roomier s.projects c.reserve_item.new.self j look.doc c.reserve_item.ensures.same c.self.invariant.histories));
+      owned = owned_by j j (entries c.push.new.self) c.args.by.seat c.args.by.line (Committed look.doc look.token look.ticket c.settle-outcome.result) c.entry_of.result c.entry_of.ensures refl c.push.ensures.entries (own_other j c.args.by.seat (Committed look.doc look.token look.ticket c.settle-outcome.result) refl refl) c.self.invariant.owned;
     }
 
 pub returns-clause-ok : goal.returns-clause-ok
@@ -188,3 +191,8 @@ post-requires-clause-sourced g c =
     let sent = waits_sent look.doc look.ticket j _ (first look j c.self.invariant.book.stands.legal of none) in
     let own : u.doc ≡ look.doc = ap (λ (x : Update). x.doc) (same_item u sent.0 (sym named ∙ sent.1)) ∙ sent.2 in
     sourced s.rooms j look.ticket u c.self.invariant.book.stands.legal named c.self.invariant.roomed
+
+pub returns-clause-cached : goal.returns-clause-cached
+returns-clause-cached g c =
+    let t = c.settle-outcome.ensures.settled in
+    rw (← c.self.view_is) (c.self.invariant.book.stands.each c.args.prepared.look.doc t.was t.at).cached_is

@@ -22,6 +22,7 @@ use Rattle.book.proofs.Putting.{err_of, faults_rose, flushed_book, holds, made_s
 use Rattle.book.proofs.Roomed.{roomed_quiet_by, roomed_same}
 use Rattle.project_histories.proofs.Histories.{histories_by, histories_same}
 use Rattle.book.proofs.Stored.{keeps_asked, keeps_failed, keeps_put, keeps_same}
+use Rattle.turn_rules.proofs.Owning.{own_other, owned_by, owned_same}
 use Rattle.book.proofs.book.Book.flush.Goals as goal
 
 pub returns-then-at-len-clause-refused : goal.returns-then-at-len-clause-refused
@@ -65,6 +66,7 @@ invariant_of-self-in-Err-Memory g c =
       roomed = roomed_same s.rooms (entries s.journal) (entries c.make_room.new.journal) c.make_room.ensures.entries c.self.invariant.roomed;
       keeps = keeps_same (entries s.journal) (entries c.make_room.new.journal) c.make_room.ensures.entries (keeps_asked (entries s.journal) c.self.invariant.keeps (λ told. err_of _ _ c.in-Err-Memory.is (c.put-put.ensures.err told)) c.put-put.ensures.cause.later);
       histories = histories_same s.projects (entries s.journal) (entries c.make_room.new.journal) c.make_room.ensures.entries c.self.invariant.histories;
+      owned = owned_same (entries s.journal) (entries c.make_room.new.journal) c.make_room.ensures.entries c.self.invariant.owned;
     }
 
 pub invariant_of-self-in-Ok-put : goal.invariant_of-self-in-Ok-put
@@ -90,6 +92,7 @@ invariant_of-self-in-Ok-put g c =
       keeps = keeps_same (j ++ e ∷ []) (entries c.push.new.self) (c.push.ensures.entries ∙ ap (λ l. l ++ e ∷ []) c.make_room.ensures.entries)
           (keeps_put j c.self.invariant.keeps e p.doc p.token c.version-v.result p.kept act legal (made_still p c.args.by.seat j legal of none) at (put_is p c.args.by.seat j legal of none ∙ ap (λ n. kept_document p.doc n j) (sym v)) put c.put-put.ensures.cause.later);
       histories = histories_by s.projects j (entries c.make_room.new.journal) (entries c.push.new.self) c.args.by.seat c.args.by.line (Flushed p.doc p.token c.version-v.result) e c.entry_of.ensures c.make_room.ensures.entries c.push.ensures.entries legal refl (λ n. refl) (λ n. refl) c.self.invariant.histories;
+      owned = owned_by j (entries c.make_room.new.journal) (entries c.push.new.self) c.args.by.seat c.args.by.line (Flushed p.doc p.token c.version-v.result) e c.entry_of.ensures c.make_room.ensures.entries c.push.ensures.entries (own_other j c.args.by.seat (Flushed p.doc p.token c.version-v.result) refl refl) c.self.invariant.owned;
     }
 
 pub invariant_of-self-in-Err-Failed : goal.invariant_of-self-in-Err-Failed
@@ -121,6 +124,7 @@ invariant_of-self-in-Err-Failed g c =
       keeps = keeps_same (j ++ e ∷ []) (entries c.push-in-Err-Failed.new.self) (c.push-in-Err-Failed.ensures.entries ∙ ap (λ l. l ++ e ∷ []) c.make_room.ensures.entries)
           (keeps_failed j c.self.invariant.keeps e p.doc p.token c.faults-before.result c.faults-after.result act (λ told. err_of _ _ c.in-Err-Failed.is (c.put-put.ensures.err told)) later (omega (arith, start, before)) (omega (arith, after)));
       histories = histories_by s.projects j (entries c.make_room.new.journal) (entries c.push-in-Err-Failed.new.self) c.args.by.seat c.args.by.line (FlushFailed p.doc p.token c.faults-before.result c.faults-after.result) e c.entry_of-in-Err-Failed.ensures c.make_room.ensures.entries c.push-in-Err-Failed.ensures.entries legal refl (λ n. refl) (λ n. refl) c.self.invariant.histories;
+      owned = owned_by j (entries c.make_room.new.journal) (entries c.push-in-Err-Failed.new.self) c.args.by.seat c.args.by.line (FlushFailed p.doc p.token c.faults-before.result c.faults-after.result) e c.entry_of-in-Err-Failed.ensures c.make_room.ensures.entries c.push-in-Err-Failed.ensures.entries (own_other j c.args.by.seat (FlushFailed p.doc p.token c.faults-before.result c.faults-after.result) refl refl) c.self.invariant.owned;
     }
 
 pub returns-in-Ok-put-clause-ok : goal.returns-in-Ok-put-clause-ok

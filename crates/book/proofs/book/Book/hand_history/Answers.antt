@@ -13,6 +13,7 @@ use Rattle.book.proofs.Booking.{quiet_by}
 use Rattle.book.proofs.Handing.{left_here, may_hand}
 use Rattle.book.proofs.Roomed.{roomed_quiet_by}
 use Rattle.book.proofs.Stored.{keeps_by}
+use Rattle.turn_rules.proofs.Owning.{own_other, owned_by}
 use Rattle.book.proofs.book.Book.hand_history.Goals as goal
 
 pub returns-in_default-clause-refused : goal.returns-in_default-clause-refused
@@ -70,6 +71,7 @@ invariant_of-self-2 g c =
       keeps = keeps_by j (entries c.make_room.new.journal) (entries c.push.new.self) c.args.by.seat c.args.by.line (Handed p c.len-count.result) c.entry_of.result entry c.make_room.ensures.entries c.push.ensures.entries (λ d o. refl) refl tt c.self.invariant.keeps;
       histories = histories_same c.take.new.self (j ++ c.entry_of.result ∷ []) (entries c.push.new.self) (c.push.ensures.entries ∙ ap (λ l. l ++ c.entry_of.result ∷ []) c.make_room.ensures.entries)
           (histories_handed s.projects c.take.new.self j c.entry_of.result p c.args.n c.len-count.result c.in-Some.place c.self.invariant.book.stands.legal (ap (λ (e : Entry). e.act) entry) at t (c.len-count.ensures ∙ c.in-Ok-take.items.ok.0 ∙ ap length (c.in-Ok-take.ensures.taken t.was t.at)) c.self.invariant.histories);
+      owned = owned_by j (entries c.make_room.new.journal) (entries c.push.new.self) c.args.by.seat c.args.by.line (Handed p c.len-count.result) c.entry_of.result entry c.make_room.ensures.entries c.push.ensures.entries (own_other j c.args.by.seat (Handed p c.len-count.result) refl refl) c.self.invariant.owned;
     }
 
 pub returns-clause-items : goal.returns-clause-items

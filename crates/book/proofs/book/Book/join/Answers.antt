@@ -17,6 +17,8 @@ use Rattle.book.proofs.Roomed.{roomed_joined, roomed_same}
 use Rattle.book.proofs.Serving.{joined_client}
 use Rattle.project_histories.proofs.Histories.{histories_by}
 use Rattle.book.proofs.Stored.{keeps_by}
+use Rattle.turn_rules.proofs.Owning.{own_client, owned_by}
+use Rattle.turn_rules.specs.Owning.{MayWriteFor}
 use Rattle.book.proofs.book.Book.join.Goals as goal
 
 pub joined-requires : goal.joined-requires
@@ -44,6 +46,7 @@ invariant_of-self-2 g c =
     let source : FIRST_SOURCE + c.len-source.result ≡ source_at j = omega (arith, len, same) in
     let row : IsJoining j c.args.doc (FIRST_SOURCE + c.len-source.result) c.version-version.result = record { made = made; cached_is = here.cached_is; v_is = v_is; source_is = source } in
     let waits = c.len-waits.ensures ∙ ap length here.waiting_is in
+    let writes : MayWriteFor s.drivers j c.args.by.seat c.args.client.now.client = subst (λ (v : Shown). MayWriteFor v.drivers v.journal c.args.by.seat c.args.client.now.client) (sym c.self.view_is) c.requires.owner in
     record {
       book = quiet_by s.journal c.make_room.new.journal c.push.new.self s.documents.items s.moment s.moment s.tokens s.owed s.drivers c.in-Ok-make_room._sum c.args.by.seat c.args.by.line (Joined c.client-number.result c.args.doc c.in-Ok-Ok.named c.args.track None (FIRST_SOURCE + c.len-source.result) c.version-version.result) c.entry_of.result c.entry_of.ensures
           c.self.invariant.book c.make_room.ensures.entries c.in-Ok-make_room.ensures.room c.push.ensures.entries c.push.ensures.spare row tt refl refl c.self.invariant.book.now_low;
@@ -51,6 +54,7 @@ invariant_of-self-2 g c =
           (roomed_joined s.rooms c.join_with_room.new.self j c.entry_of.result c.client-number.result c.args.doc c.version-version.result (FIRST_SOURCE + c.len-source.result) c.len-waits.result c.in-Ok-Ok.named c.args.track None c.self.invariant.book.stands.legal (ap (λ (e : Entry). e.act) c.entry_of.ensures) (omega (arith, waits)) c.in-Ok-join_with_room.ensures.joined c.self.invariant.roomed);
       keeps = keeps_by j (entries c.make_room.new.journal) (entries c.push.new.self) c.args.by.seat c.args.by.line (Joined c.client-number.result c.args.doc c.in-Ok-Ok.named c.args.track None (FIRST_SOURCE + c.len-source.result) c.version-version.result) c.entry_of.result c.entry_of.ensures c.make_room.ensures.entries c.push.ensures.entries (λ d o. refl) refl tt c.self.invariant.keeps;
       histories = histories_by s.projects j (entries c.make_room.new.journal) (entries c.push.new.self) c.args.by.seat c.args.by.line (Joined c.client-number.result c.args.doc c.in-Ok-Ok.named c.args.track None (FIRST_SOURCE + c.len-source.result) c.version-version.result) c.entry_of.result c.entry_of.ensures c.make_room.ensures.entries c.push.ensures.entries c.self.invariant.book.stands.legal refl (λ p. refl) (λ p. refl) c.self.invariant.histories;
+      owned = owned_by j (entries c.make_room.new.journal) (entries c.push.new.self) c.args.by.seat c.args.by.line (Joined c.client-number.result c.args.doc c.in-Ok-Ok.named c.args.track None (FIRST_SOURCE + c.len-source.result) c.version-version.result) c.entry_of.result c.entry_of.ensures c.make_room.ensures.entries c.push.ensures.entries (own_client j c.args.by.seat c.args.client.now.client (Joined c.client-number.result c.args.doc c.in-Ok-Ok.named c.args.track None (FIRST_SOURCE + c.len-source.result) c.version-version.result) (ap (λ n. Some n) c.client-number.ensures) refl writes) c.self.invariant.owned;
     }
 
 pub returns-clause-ok : goal.returns-clause-ok
@@ -85,7 +89,7 @@ returns-clause-client g c =
     let v_is : c.version-version.result ≡ version c.args.doc j = c.version-version.ensures ∙ here.window_is.version_is in
     let len = c.len-source.ensures.value in
     let same = ap length c.make_room.ensures.entries in
-    let own : IsClientOf j c.args.client.now = subst (λ (v : Shown). IsClientOf v.journal c.args.client.now) (sym c.self.view_is) c.requires in
+    let own : IsClientOf j c.args.client.now = subst (λ (v : Shown). IsClientOf v.journal c.args.client.now) (sym c.self.view_is) c.requires.client in
     joined_client j (entries c.push.new.self) c.entry_of.result c.args.client.now c.joined.new.self c.args.doc c.in-Ok-Ok.own c.args.track (FIRST_SOURCE + c.len-source.result) c.version-version.result c.in-Ok.text
     (c.push.ensures.entries ∙ ap (λ l. l ++ c.entry_of.result ∷ []) c.make_room.ensures.entries)
     (ap (λ (e : Entry). e.act) c.entry_of.ensures ∙ ap₂ (λ n u. Joined n c.args.doc u c.args.track None (FIRST_SOURCE + c.len-source.result) c.version-version.result) c.client-number.ensures (c.in-Ok-Ok.ensures' ∙ sym c.in-Ok-Ok.ensures))

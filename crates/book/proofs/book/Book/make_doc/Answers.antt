@@ -11,6 +11,7 @@ use Rattle.book.proofs.Stored.{keeps_by, keeps_same}
 use Rattle.book.proofs.Roomed.{roomed_same}
 use Rattle.project_histories.specs.Histories.{Adds}
 use Rattle.project_histories.proofs.Histories.{histories_kept, histories_made, histories_same}
+use Rattle.turn_rules.proofs.Owning.{own_other, owned_by, owned_same}
 use Rattle.book.proofs.book.Book.make_doc.Goals as goal
 
 pub returns-in-Some-clause-refused : goal.returns-in-Some-clause-refused
@@ -54,6 +55,7 @@ invariant_of-self-in_default-reserve_document g c =
       roomed = roomed_same s.rooms (entries s.journal) (entries c.make_room.new.journal) c.make_room.ensures.entries c.self.invariant.roomed;
       keeps = keeps_same (entries s.journal) (entries c.make_room.new.journal) c.make_room.ensures.entries c.self.invariant.keeps;
       histories = histories_same c.reserve_document.new.self (entries s.journal) (entries c.make_room.new.journal) c.make_room.ensures.entries (histories_kept s.projects c.reserve_document.new.self (entries s.journal) c.reserve_document.ensures.same c.self.invariant.histories);
+      owned = owned_same (entries s.journal) (entries c.make_room.new.journal) c.make_room.ensures.entries c.self.invariant.owned;
     }
 
 pub invariant_of-self-in_default-add : goal.invariant_of-self-in_default-add
@@ -64,6 +66,7 @@ invariant_of-self-in_default-add g c =
       roomed = roomed_same s.rooms (entries s.journal) (entries c.make_room.new.journal) c.make_room.ensures.entries c.self.invariant.roomed;
       keeps = keeps_same (entries s.journal) (entries c.make_room.new.journal) c.make_room.ensures.entries c.self.invariant.keeps;
       histories = histories_same c.reserve_document.new.self (entries s.journal) (entries c.make_room.new.journal) c.make_room.ensures.entries (histories_kept s.projects c.reserve_document.new.self (entries s.journal) c.reserve_document.ensures.same c.self.invariant.histories);
+      owned = owned_same (entries s.journal) (entries c.make_room.new.journal) c.make_room.ensures.entries c.self.invariant.owned;
     })
 
 pub invariant_of-self-2 : goal.invariant_of-self-2
@@ -83,6 +86,7 @@ invariant_of-self-2 g c =
       histories = histories_same c.add_document.new.self (entries s.journal ++ c.in-Ok.entry ∷ []) (entries c.push.new.self) (c.push.ensures.entries ∙ ap (λ l. l ++ c.in-Ok.entry ∷ []) c.make_room.ensures.entries)
           (histories_made c.reserve_document.new.self c.add_document.new.self (entries s.journal) c.in-Ok.entry c.len-doc.result c.args.name.now c.args.project.now c.args.first.now c.args.base c.self.invariant.book.stands.legal (ap (λ (e : Entry). e.act) c.in-Ok.ensures.entry)
           (subst (λ (p : List ℕ). Adds p c.reserve_document.new.self c.add_document.new.self) c.in-Ok-copy.ensures c.add_document.ensures) (histories_kept s.projects c.reserve_document.new.self (entries s.journal) c.reserve_document.ensures.same c.self.invariant.histories));
+      owned = owned_by (entries s.journal) (entries c.make_room.new.journal) (entries c.push.new.self) c.args.by.seat c.args.by.line (Made c.len-doc.result c.args.name.now c.args.project.now c.args.first.now c.args.base) c.in-Ok.entry c.in-Ok.ensures.entry c.make_room.ensures.entries c.push.ensures.entries (own_other (entries s.journal) c.args.by.seat (Made c.len-doc.result c.args.name.now c.args.project.now c.args.first.now c.args.base) refl refl) c.self.invariant.owned;
     }
 
 pub returns-clause-made : goal.returns-clause-made

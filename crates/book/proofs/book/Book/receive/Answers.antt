@@ -19,6 +19,8 @@ use Rattle.book.proofs.Roomed.{first_told, none_told, roomed_got, roomed_same, s
 use Rattle.book.proofs.Serving.{got_client, may_get}
 use Rattle.project_histories.proofs.Histories.{histories_by}
 use Rattle.book.proofs.Stored.{keeps_by}
+use Rattle.turn_rules.proofs.Owning.{own_client, owned_by}
+use Rattle.turn_rules.specs.Owning.{MayWriteFor}
 use Rattle.book.proofs.book.Book.receive.Goals as goal
 
 pub returns-in_default-clause-first : goal.returns-in_default-clause-first
@@ -39,13 +41,13 @@ unreachable-requires-in_default-2 g c =
 pub on_message-requires-clause-own : goal.on_message-requires-clause-own
 on_message-requires-clause-own g c =
     let j = entries c.self.inside.journal in
-    let own : IsClientOf j c.args.client.now = subst (λ (v : Shown). IsClientOf v.journal c.args.client.now) (sym c.self.view_is) c.requires in
+    let own : IsClientOf j c.args.client.now = subst (λ (v : Shown). IsClientOf v.journal c.args.client.now) (sym c.self.view_is) c.requires.client in
     subst IsAtEase (sym own) (at_ease c.args.client.now.client j c.self.invariant.book.stands.legal)
 
 pub on_message-requires-clause-sized : goal.on_message-requires-clause-sized
 on_message-requires-clause-sized g c = λ alive.
     let j = entries c.self.inside.journal in
-    let own : IsClientOf j c.args.client.now = subst (λ (v : Shown). IsClientOf v.journal c.args.client.now) (sym c.self.view_is) c.requires in
+    let own : IsClientOf j c.args.client.now = subst (λ (v : Shown). IsClientOf v.journal c.args.client.now) (sym c.self.view_is) c.requires.client in
     let told = first_told c.self.inside.rooms j c.client-number.result c.in-Some.place c.in-Some-source.source c.self.invariant.book.stands.legal c.self.invariant.roomed (sym c.next.ensures ∙ c.in-Some.is) (sym c.source.ensures ∙ c.in-Some-source.is) in
     let message : told.0 ≡ c.in-Some-2.message = same_item told.0 c.in-Some-2.message (sym told.2 ∙ sym (ap (λ l. told_at l c.in-Some-source.source c.in-Some.place) c.as_slice-entries.ensures) ∙ sym c.in_ok-message.ensures ∙ c.in-Some-2.is) in
     let first : mail c.client-number.result j ≡ c.in-Some-2.message ∷ told.1 = told.3 ∙ ap (λ m. m ∷ told.1) message in
@@ -61,6 +63,7 @@ invariant_of-self-2 g c =
     let message : told.0 ≡ c.in-Some-2.message = same_item told.0 c.in-Some-2.message (sym told.2 ∙ sym (ap (λ l. told_at l c.in-Some-source.source c.in-Some.place) c.as_slice-entries.ensures) ∙ sym c.in_ok-message.ensures ∙ c.in-Some-2.is) in
     let first : mail c.client-number.result j ≡ c.in-Some-2.message ∷ told.1 = told.3 ∙ ap (λ m. m ∷ told.1) message in
     let act : c.entry_of.result ≡ record { seat = c.args.by.seat; line = c.args.by.line; act = Got c.client-number.result (brief_of c.in-Some-2.message) } = c.entry_of.ensures ∙ ap (λ b. record { seat = c.args.by.seat; line = c.args.by.line; act = Got c.client-number.result b }) c.brief-brief.ensures in
+    let writes : MayWriteFor s.drivers j c.args.by.seat c.args.client.now.client = subst (λ (v : Shown). MayWriteFor v.drivers v.journal c.args.by.seat c.args.client.now.client) (sym c.self.view_is) c.requires.owner in
     record {
       book = quiet_by s.journal c.make_room.new.journal c.push.new.self s.documents.items s.moment s.moment s.tokens s.owed s.drivers c.in_ok-_sum._sum c.args.by.seat c.args.by.line (Got c.client-number.result (brief_of c.in-Some-2.message)) c.entry_of.result act
           c.self.invariant.book c.make_room.ensures.entries c.in_ok-_sum.ensures.room c.push.ensures.entries c.push.ensures.spare (may_get j c.args.by.seat c.client-number.result c.in-Some-2.message told.1 first) tt refl refl c.self.invariant.book.now_low;
@@ -68,6 +71,7 @@ invariant_of-self-2 g c =
           (roomed_got s.rooms c.pop-place.new.self j c.entry_of.result c.client-number.result (brief_of c.in-Some-2.message) c.self.invariant.book.stands.legal (ap (λ (e : Entry). e.act) act) c.pop-place.ensures.rest c.self.invariant.roomed);
       keeps = keeps_by j (entries c.make_room.new.journal) (entries c.push.new.self) c.args.by.seat c.args.by.line (Got c.client-number.result (brief_of c.in-Some-2.message)) c.entry_of.result act c.make_room.ensures.entries c.push.ensures.entries (λ d o. refl) refl tt c.self.invariant.keeps;
       histories = histories_by s.projects j (entries c.make_room.new.journal) (entries c.push.new.self) c.args.by.seat c.args.by.line (Got c.client-number.result (brief_of c.in-Some-2.message)) c.entry_of.result act c.make_room.ensures.entries c.push.ensures.entries c.self.invariant.book.stands.legal refl (λ p. refl) (λ p. refl) c.self.invariant.histories;
+      owned = owned_by j (entries c.make_room.new.journal) (entries c.push.new.self) c.args.by.seat c.args.by.line (Got c.client-number.result (brief_of c.in-Some-2.message)) c.entry_of.result act c.make_room.ensures.entries c.push.ensures.entries (own_client j c.args.by.seat c.args.client.now.client (Got c.client-number.result (brief_of c.in-Some-2.message)) (ap (λ n. Some n) c.client-number.ensures) refl writes) c.self.invariant.owned;
     }
 
 pub returns-clause-first : goal.returns-clause-first
@@ -81,7 +85,7 @@ returns-clause-first g c =
 pub returns-clause-client : goal.returns-clause-client
 returns-clause-client g c =
     let j = entries c.self.inside.journal in
-    let own : IsClientOf j c.args.client.now = subst (λ (v : Shown). IsClientOf v.journal c.args.client.now) (sym c.self.view_is) c.requires in
+    let own : IsClientOf j c.args.client.now = subst (λ (v : Shown). IsClientOf v.journal c.args.client.now) (sym c.self.view_is) c.requires.client in
     let told = first_told c.self.inside.rooms j c.client-number.result c.in-Some.place c.in-Some-source.source c.self.invariant.book.stands.legal c.self.invariant.roomed (sym c.next.ensures ∙ c.in-Some.is) (sym c.source.ensures ∙ c.in-Some-source.is) in
     let message : told.0 ≡ c.in-Some-2.message = same_item told.0 c.in-Some-2.message (sym told.2 ∙ sym (ap (λ l. told_at l c.in-Some-source.source c.in-Some.place) c.as_slice-entries.ensures) ∙ sym c.in_ok-message.ensures ∙ c.in-Some-2.is) in
     let first : mail c.client-number.result j ≡ c.in-Some-2.message ∷ told.1 = told.3 ∙ ap (λ m. m ∷ told.1) message in

@@ -18,6 +18,7 @@ use Rattle.book.proofs.Locking.{told_by, told_unmade, held_owed, refused_book, s
 use Rattle.journal_entries.specs.declared.act.Act.TheVariants.{Committed}
 use Rattle.project_histories.proofs.Histories.{histories_by, refused_none}
 use Rattle.book.proofs.Stored.{keeps_by}
+use Rattle.turn_rules.proofs.Owning.{own_other, owned_by}
 use Rattle.book.proofs.book.Book.refuse.Goals as goal
 
 pub returns-then-at-len-clause-stale : goal.returns-then-at-len-clause-stale
@@ -78,6 +79,7 @@ invariant_of-self g c =
           (λ k. c.post.ensures k ∙ ap (λ n. option_map (posted_by k u n (Refused c.args.cause)) (member k s.rooms)) c.len-length.ensures.value) c.self.invariant.roomed;
       keeps = keeps_by j j (entries c.push.new.self) c.args.by.seat c.args.by.line (Committed c.args.doc c.args.token c.args.ticket (Refused c.args.cause)) c.entry_of.result c.entry_of.ensures refl c.push.ensures.entries (λ d o. refl) refl tt c.self.invariant.keeps;
       histories = histories_by s.projects j j (entries c.push.new.self) c.args.by.seat c.args.by.line (Committed c.args.doc c.args.token c.args.ticket (Refused c.args.cause)) c.entry_of.result c.entry_of.ensures refl c.push.ensures.entries c.self.invariant.book.stands.legal refl (λ p. refused_none p j c.args.doc c.args.token c.args.ticket c.args.cause) (λ p. refl) c.self.invariant.histories;
+      owned = owned_by j j (entries c.push.new.self) c.args.by.seat c.args.by.line (Committed c.args.doc c.args.token c.args.ticket (Refused c.args.cause)) c.entry_of.result c.entry_of.ensures refl c.push.ensures.entries (own_other j c.args.by.seat (Committed c.args.doc c.args.token c.args.ticket (Refused c.args.cause)) refl refl) c.self.invariant.owned;
     }
 
 pub returns-clause-ok : goal.returns-clause-ok

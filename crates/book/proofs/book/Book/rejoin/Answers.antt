@@ -28,6 +28,8 @@ use Rattle.book.proofs.Roomed.{roomed_again, roomed_joined, roomed_same}
 use Rattle.book.proofs.Serving.{returned_client}
 use Rattle.project_histories.proofs.Histories.{histories_by, histories_same}
 use Rattle.book.proofs.Stored.{keeps_by, keeps_same}
+use Rattle.turn_rules.proofs.Owning.{own_client, owned_by, owned_same}
+use Rattle.turn_rules.specs.Owning.{MayWriteFor}
 use Rattle.book.proofs.book.Book.rejoin.Goals as goal
 
 pub unreachable-requires-in_default-get : goal.unreachable-requires-in_default-get
@@ -35,7 +37,7 @@ unreachable-requires-in_default-get g c =
     let s = c.self.inside in
     let j = entries s.journal in
     let was = c.args.client.now in
-    let own : IsClientOf j was = subst (λ (v : Shown). IsClientOf v.journal was) (sym c.self.view_is) c.requires in
+    let own : IsClientOf j was = subst (λ (v : Shown). IsClientOf v.journal was) (sym c.self.view_is) c.requires.client in
     let left : was.now.state ≡ Left = search (rules, c.state.ensures, c.ne.ensures, c.if-ne.false) in
     let doc : c.in-Some-Some-Some.doc ≡ was.now.doc = left_told was.now.state was.now.doc c.in-Some-Some-Some.doc c.doc.result left c.doc.ensures c.in-Some-Some-Some.is-0 in
     let made = left_doc j was c.self.invariant.book.stands.legal own left in
@@ -49,7 +51,7 @@ overflow_sub-version g c =
     let s = c.self.inside in
     let j = entries s.journal in
     let was = c.args.client.now in
-    let own : IsClientOf j was = subst (λ (v : Shown). IsClientOf v.journal was) (sym c.self.view_is) c.requires in
+    let own : IsClientOf j was = subst (λ (v : Shown). IsClientOf v.journal was) (sym c.self.view_is) c.requires.client in
     let left : was.now.state ≡ Left = search (rules, c.state.ensures, c.ne.ensures, c.if-ne.false) in
     let doc : c.in-Some-Some-Some.doc ≡ was.now.doc = left_told was.now.state was.now.doc c.in-Some-Some-Some.doc c.doc.result left c.doc.ensures c.in-Some-Some-Some.is-0 in
     let x = c.in-Some.document.now in
@@ -65,7 +67,7 @@ returns-then-version-since-gt-MAX_AGE-clause-refused g c =
     let s = c.self.inside in
     let j = entries s.journal in
     let was = c.args.client.now in
-    let own : IsClientOf j was = subst (λ (v : Shown). IsClientOf v.journal was) (sym c.self.view_is) c.requires in
+    let own : IsClientOf j was = subst (λ (v : Shown). IsClientOf v.journal was) (sym c.self.view_is) c.requires.client in
     let left : was.now.state ≡ Left = search (rules, c.state.ensures, c.ne.ensures, c.if-ne.false) in
     let doc : c.in-Some-Some-Some.doc ≡ was.now.doc = left_told was.now.state was.now.doc c.in-Some-Some-Some.doc c.doc.result left c.doc.ensures c.in-Some-Some-Some.is-0 in
     let x = c.in-Some.document.now in
@@ -81,7 +83,7 @@ returns-in_default-2-clause-refused g c =
     let s = c.self.inside in
     let j = entries s.journal in
     let was = c.args.client.now in
-    let own : IsClientOf j was = subst (λ (v : Shown). IsClientOf v.journal was) (sym c.self.view_is) c.requires in
+    let own : IsClientOf j was = subst (λ (v : Shown). IsClientOf v.journal was) (sym c.self.view_is) c.requires.client in
     let left : was.now.state ≡ Left = search (rules, c.state.ensures, c.ne.ensures, c.if-ne.false) in
     let doc : c.in-Some-Some-Some.doc ≡ was.now.doc = left_told was.now.state was.now.doc c.in-Some-Some-Some.doc c.doc.result left c.doc.ensures c.in-Some-Some-Some.is-0 in
     let x = c.in-Some.document.now in
@@ -98,7 +100,7 @@ returns-in_default-make_room-clause-refused g c =
     let s = c.self.inside in
     let j = entries s.journal in
     let was = c.args.client.now in
-    let own : IsClientOf j was = subst (λ (v : Shown). IsClientOf v.journal was) (sym c.self.view_is) c.requires in
+    let own : IsClientOf j was = subst (λ (v : Shown). IsClientOf v.journal was) (sym c.self.view_is) c.requires.client in
     let left : was.now.state ≡ Left = search (rules, c.state.ensures, c.ne.ensures, c.if-ne.false) in
     let doc : c.in-Some-Some-Some.doc ≡ was.now.doc = left_told was.now.state was.now.doc c.in-Some-Some-Some.doc c.doc.result left c.doc.ensures c.in-Some-Some-Some.is-0 in
     let x = c.in-Some.document.now in
@@ -115,7 +117,7 @@ returns-in_default-join_with_room-clause-refused g c =
     let s = c.self.inside in
     let j = entries s.journal in
     let was = c.args.client.now in
-    let own : IsClientOf j was = subst (λ (v : Shown). IsClientOf v.journal was) (sym c.self.view_is) c.requires in
+    let own : IsClientOf j was = subst (λ (v : Shown). IsClientOf v.journal was) (sym c.self.view_is) c.requires.client in
     let left : was.now.state ≡ Left = search (rules, c.state.ensures, c.ne.ensures, c.if-ne.false) in
     let doc : c.in-Some-Some-Some.doc ≡ was.now.doc = left_told was.now.state was.now.doc c.in-Some-Some-Some.doc c.doc.result left c.doc.ensures c.in-Some-Some-Some.is-0 in
     let x = c.in-Some.document.now in
@@ -132,7 +134,7 @@ returns-in_default-caught_up-clause-refused g c =
     let s = c.self.inside in
     let j = entries s.journal in
     let was = c.args.client.now in
-    let own : IsClientOf j was = subst (λ (v : Shown). IsClientOf v.journal was) (sym c.self.view_is) c.requires in
+    let own : IsClientOf j was = subst (λ (v : Shown). IsClientOf v.journal was) (sym c.self.view_is) c.requires.client in
     let left : was.now.state ≡ Left = search (rules, c.state.ensures, c.ne.ensures, c.if-ne.false) in
     let doc : c.in-Some-Some-Some.doc ≡ was.now.doc = left_told was.now.state was.now.doc c.in-Some-Some-Some.doc c.doc.result left c.doc.ensures c.in-Some-Some-Some.is-0 in
     let x = c.in-Some.document.now in
@@ -148,7 +150,7 @@ pub caught_up-requires-clause-own : goal.caught_up-requires-clause-own
 caught_up-requires-clause-own g c =
     let j = entries c.self.inside.journal in
     let was = c.args.client.now in
-    let own : IsClientOf j was = subst (λ (v : Shown). IsClientOf v.journal was) (sym c.self.view_is) c.requires in
+    let own : IsClientOf j was = subst (λ (v : Shown). IsClientOf v.journal was) (sym c.self.view_is) c.requires.client in
     let left : was.now.state ≡ Left = search (rules, c.state.ensures, c.ne.ensures, c.if-ne.false) in
     left_sized j was c.self.invariant.book.stands.legal own left
 
@@ -157,7 +159,7 @@ caught_up-requires-clause-sized g c =
     let s = c.self.inside in
     let j = entries s.journal in
     let was = c.args.client.now in
-    let own : IsClientOf j was = subst (λ (v : Shown). IsClientOf v.journal was) (sym c.self.view_is) c.requires in
+    let own : IsClientOf j was = subst (λ (v : Shown). IsClientOf v.journal was) (sym c.self.view_is) c.requires.client in
     let left : was.now.state ≡ Left = search (rules, c.state.ensures, c.ne.ensures, c.if-ne.false) in
     let doc : c.in-Some-Some-Some.doc ≡ was.now.doc = left_told was.now.state was.now.doc c.in-Some-Some-Some.doc c.doc.result left c.doc.ensures c.in-Some-Some-Some.is-0 in
     let x = c.in-Some.document.now in
@@ -177,7 +179,7 @@ invariant_of-self-in_default-caught_up g c =
     let s = c.self.inside in
     let j = entries s.journal in
     let was = c.args.client.now in
-    let own : IsClientOf j was = subst (λ (v : Shown). IsClientOf v.journal was) (sym c.self.view_is) c.requires in
+    let own : IsClientOf j was = subst (λ (v : Shown). IsClientOf v.journal was) (sym c.self.view_is) c.requires.client in
     let left : was.now.state ≡ Left = search (rules, c.state.ensures, c.ne.ensures, c.if-ne.false) in
     let gone : placed c.client-number.result j ≡ None = ap (λ n. placed n j) c.client-number.ensures ∙ (roomed was.client j c.self.invariant.book.stands.legal).left (ap (λ (x : Client). x.state) (sym own) ∙ left) in
     record {
@@ -186,6 +188,7 @@ invariant_of-self-in_default-caught_up g c =
           (roomed_again s.rooms c.join_with_room.new.self c.leave.new.self j c.client-number.result c.in-Some-Some-Some.doc _ _ gone c.in-Ok-join_with_room.ensures.joined c.leave.ensures c.self.invariant.roomed);
       keeps = keeps_same j (entries c.make_room.new.journal) c.make_room.ensures.entries c.self.invariant.keeps;
       histories = histories_same s.projects j (entries c.make_room.new.journal) c.make_room.ensures.entries c.self.invariant.histories;
+      owned = owned_same j (entries c.make_room.new.journal) c.make_room.ensures.entries c.self.invariant.owned;
     }
 
 pub invariant_of-self-2 : goal.invariant_of-self-2
@@ -193,7 +196,7 @@ invariant_of-self-2 g c =
     let s = c.self.inside in
     let j = entries s.journal in
     let was = c.args.client.now in
-    let own : IsClientOf j was = subst (λ (v : Shown). IsClientOf v.journal was) (sym c.self.view_is) c.requires in
+    let own : IsClientOf j was = subst (λ (v : Shown). IsClientOf v.journal was) (sym c.self.view_is) c.requires.client in
     let left : was.now.state ≡ Left = search (rules, c.state.ensures, c.ne.ensures, c.if-ne.false) in
     let doc : c.in-Some-Some-Some.doc ≡ was.now.doc = left_told was.now.state was.now.doc c.in-Some-Some-Some.doc c.doc.result left c.doc.ensures c.in-Some-Some-Some.is-0 in
     let x = c.in-Some.document.now in
@@ -216,6 +219,7 @@ invariant_of-self-2 g c =
     ∙ ap (λ n. entry_by c.args.by.seat c.args.by.line (Joined was.client was.now.doc was.now.user was.now.track (Some was.now.version) (source_at j) n)) v in
     let row : IsReturning j was.client was.now.doc was.now.user was.now.track was.now.version (source_at j) (version was.now.doc j) = may_return j was c.self.invariant.book.stands.legal own left (source_at j) (version was.now.doc j) may refl refl in
     let waits = c.len-waits.ensures ∙ ap length here.waiting_is in
+    let writes : MayWriteFor s.drivers j c.args.by.seat c.args.client.now.client = subst (λ (v : Shown). MayWriteFor v.drivers v.journal c.args.by.seat c.args.client.now.client) (sym c.self.view_is) c.requires.owner in
     record {
       book = quiet_by s.journal c.make_room.new.journal c.push.new.self s.documents.items s.moment s.moment s.tokens s.owed s.drivers c.in-Ok._sum c.args.by.seat c.args.by.line (back_act was.client was.now j) c.entry_of.result entry
           c.self.invariant.book c.make_room.ensures.entries c.in-Ok.ensures.room c.push.ensures.entries c.push.ensures.spare row tt refl refl c.self.invariant.book.now_low;
@@ -223,6 +227,7 @@ invariant_of-self-2 g c =
           (roomed_joined s.rooms c.join_with_room.new.self j c.entry_of.result c.client-number.result c.in-Some-Some-Some.doc c.version-version.result (FIRST_SOURCE + c.len-source.result) c.len-waits.result c.in-Ok-Ok.user c.in-Some-Some-Some.track (Some c.version-since.result) c.self.invariant.book.stands.legal (ap (λ (e : Entry). e.act) c.entry_of.ensures) (omega (arith, waits)) c.in-Ok-join_with_room.ensures.joined c.self.invariant.roomed);
       keeps = keeps_by j (entries c.make_room.new.journal) (entries c.push.new.self) c.args.by.seat c.args.by.line (back_act was.client was.now j) c.entry_of.result entry c.make_room.ensures.entries c.push.ensures.entries (λ d o. refl) refl tt c.self.invariant.keeps;
       histories = histories_by s.projects j (entries c.make_room.new.journal) (entries c.push.new.self) c.args.by.seat c.args.by.line (back_act was.client was.now j) c.entry_of.result entry c.make_room.ensures.entries c.push.ensures.entries c.self.invariant.book.stands.legal refl (λ p. refl) (λ p. refl) c.self.invariant.histories;
+      owned = owned_by j (entries c.make_room.new.journal) (entries c.push.new.self) c.args.by.seat c.args.by.line (back_act was.client was.now j) c.entry_of.result entry c.make_room.ensures.entries c.push.ensures.entries (own_client j c.args.by.seat c.args.client.now.client (back_act was.client was.now j) refl refl writes) c.self.invariant.owned;
     }
 
 pub returns-clause-ok : goal.returns-clause-ok
@@ -230,7 +235,7 @@ returns-clause-ok g c =
     let s = c.self.inside in
     let j = entries s.journal in
     let was = c.args.client.now in
-    let own : IsClientOf j was = subst (λ (v : Shown). IsClientOf v.journal was) (sym c.self.view_is) c.requires in
+    let own : IsClientOf j was = subst (λ (v : Shown). IsClientOf v.journal was) (sym c.self.view_is) c.requires.client in
     let left : was.now.state ≡ Left = search (rules, c.state.ensures, c.ne.ensures, c.if-ne.false) in
     let doc : c.in-Some-Some-Some.doc ≡ was.now.doc = left_told was.now.state was.now.doc c.in-Some-Some-Some.doc c.doc.result left c.doc.ensures c.in-Some-Some-Some.is-0 in
     let x = c.in-Some.document.now in
@@ -258,7 +263,7 @@ returns-clause-client g c =
     let s = c.self.inside in
     let j = entries s.journal in
     let was = c.args.client.now in
-    let own : IsClientOf j was = subst (λ (v : Shown). IsClientOf v.journal was) (sym c.self.view_is) c.requires in
+    let own : IsClientOf j was = subst (λ (v : Shown). IsClientOf v.journal was) (sym c.self.view_is) c.requires.client in
     let left : was.now.state ≡ Left = search (rules, c.state.ensures, c.ne.ensures, c.if-ne.false) in
     let doc : c.in-Some-Some-Some.doc ≡ was.now.doc = left_told was.now.state was.now.doc c.in-Some-Some-Some.doc c.doc.result left c.doc.ensures c.in-Some-Some-Some.is-0 in
     let x = c.in-Some.document.now in

@@ -11,6 +11,7 @@ use Rattle.journal_entries.specs.declared.act.Act.TheVariants.{Released}
 use Rattle.book.proofs.Locking.{told_by, told_unmade, held_owed, stands_in, released_book}
 use Rattle.project_histories.proofs.Histories.{histories_by}
 use Rattle.book.proofs.Stored.{keeps_by}
+use Rattle.turn_rules.proofs.Owning.{own_other, owned_by}
 use Rattle.book.proofs.book.Book.release.Goals as goal
 
 pub returns-then-at-len-clause-stale : goal.returns-then-at-len-clause-stale
@@ -59,6 +60,7 @@ invariant_of-self g c =
       roomed = roomed_quiet_by s.rooms (entries s.journal) (entries s.journal) (entries c.push.new.self) c.args.by.seat c.args.by.line (Released c.args.doc c.args.token) c.entry_of.result c.entry_of.ensures refl c.push.ensures.entries c.self.invariant.book.stands.legal tt refl (λ d. refl) c.self.invariant.roomed;
       keeps = keeps_by (entries s.journal) (entries s.journal) (entries c.push.new.self) c.args.by.seat c.args.by.line (Released c.args.doc c.args.token) c.entry_of.result c.entry_of.ensures refl c.push.ensures.entries (λ d o. refl) refl tt c.self.invariant.keeps;
       histories = histories_by s.projects (entries s.journal) (entries s.journal) (entries c.push.new.self) c.args.by.seat c.args.by.line (Released c.args.doc c.args.token) c.entry_of.result c.entry_of.ensures refl c.push.ensures.entries c.self.invariant.book.stands.legal refl (λ p. refl) (λ p. refl) c.self.invariant.histories;
+      owned = owned_by (entries s.journal) (entries s.journal) (entries c.push.new.self) c.args.by.seat c.args.by.line (Released c.args.doc c.args.token) c.entry_of.result c.entry_of.ensures refl c.push.ensures.entries (own_other (entries s.journal) c.args.by.seat (Released c.args.doc c.args.token) refl refl) c.self.invariant.owned;
     }
 
 pub returns-clause-ok : goal.returns-clause-ok

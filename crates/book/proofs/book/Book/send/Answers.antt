@@ -6,6 +6,7 @@ use Rattle.book.specs.declared.sender.Sender.{Sender}
 use Rattle.journal_entries.specs.Journals.{entries}
 use Rattle.journal_entries.specs.declared.update.Update.{Update}
 use Rattle.journal_entries.specs.declared.act.Act.TheVariants.{Sent}
+use Rattle.journal_entries.specs.declared.act.Entry.{Entry}
 use Rattle.journal_rules.specs.Client as rules
 use Rattle.journal_rules.specs.Locks.{clock}
 use Rattle.journal_sizes.proofs.Counts.{number_low}
@@ -14,6 +15,8 @@ use Rattle.book.specs.Shown.{Shown}
 use Rattle.book.specs.Standing.{IsKeptAs, IsQueued, Turns}
 use Rattle.book.proofs.Sending.{as_many, queued_book, reserved_book}
 use Rattle.book.proofs.Serving.{free_flight, may_send, own_doc, sends_joined, sent_client}
+use Rattle.turn_rules.specs.Owning.{MayWriteFor}
+use Rattle.turn_rules.proofs.Owning.{own_client}
 use Rattle.book.proofs.book.Book.send.Goals as goal
 
 pub new-requires : goal.new-requires
@@ -23,7 +26,7 @@ pub reserve_waiting-requires : goal.reserve_waiting-requires
 reserve_waiting-requires g c =
     let s = c.self.inside in
     let j = entries s.journal in
-    let own : IsClientOf j c.args.client.now = subst (λ (v : Shown). IsClientOf v.journal c.args.client.now) (sym c.self.view_is) c.requires in
+    let own : IsClientOf j c.args.client.now = subst (λ (v : Shown). IsClientOf v.journal c.args.client.now) (sym c.self.view_is) c.requires.client in
     let none = sym c.refused_send.ensures ∙ c.in_default.is in
     let made = own_doc j c.args.client.now c.self.invariant.book.stands.legal own (sends_joined c.args.client.now.now none) in
     let count = c.self.invariant.book.stands.count in
@@ -40,7 +43,7 @@ pub take_send-requires : goal.take_send-requires
 take_send-requires g c =
     let s = c.self.inside in
     let j = entries s.journal in
-    let own : IsClientOf j c.args.client.now = subst (λ (v : Shown). IsClientOf v.journal c.args.client.now) (sym c.self.view_is) c.requires in
+    let own : IsClientOf j c.args.client.now = subst (λ (v : Shown). IsClientOf v.journal c.args.client.now) (sym c.self.view_is) c.requires.client in
     let none = sym c.refused_send.ensures ∙ c.in_default.is in
     let low = number_low c.args.client.now.client j in
     let n = ap (λ (x : rules.Client). x.number) own in
@@ -59,7 +62,7 @@ pub queue-requires-clause-within : goal.queue-requires-clause-within
 queue-requires-clause-within g c =
     let s = c.self.inside in
     let j = entries s.journal in
-    let own : IsClientOf j c.args.client.now = subst (λ (v : Shown). IsClientOf v.journal c.args.client.now) (sym c.self.view_is) c.requires in
+    let own : IsClientOf j c.args.client.now = subst (λ (v : Shown). IsClientOf v.journal c.args.client.now) (sym c.self.view_is) c.requires.client in
     let none = sym c.refused_send.ensures ∙ c.in_default.is in
     let made = own_doc j c.args.client.now c.self.invariant.book.stands.legal own (sends_joined c.args.client.now.now none) in
     let count = c.self.invariant.book.stands.count in
@@ -71,14 +74,15 @@ pub invariant_of-self-2 : goal.invariant_of-self-2
 invariant_of-self-2 g c =
     let s = c.self.inside in
     let j = entries s.journal in
-    let own : IsClientOf j c.args.client.now = subst (λ (v : Shown). IsClientOf v.journal c.args.client.now) (sym c.self.view_is) c.requires in
+    let own : IsClientOf j c.args.client.now = subst (λ (v : Shown). IsClientOf v.journal c.args.client.now) (sym c.self.view_is) c.requires.client in
     let none = sym c.refused_send.ensures ∙ c.in_default.is in
     let doc : c.in-Ok.sender.doc ≡ c.args.client.now.now.doc = ap (λ (x : Sender). x.doc) c.in-Ok.ensures in
     let sent = c.in_ok-sent.ensures.ok in
     let u : Update = rules.update_from c.args.client.now.client c.args.client.now.now (clock j) (c.args.client.now.now.number + 1) c.args.client.now.now.pending [] in
     let act : c.entry_of.result.act ≡ Sent u = search (rules_, c.entry_of.ensures, c.update-update.ensures, c.in-Ok.ensures, sent.1, c.self.invariant.book.now_is) in
+    let writes : MayWriteFor s.drivers j c.args.by.seat c.args.client.now.client = subst (λ (v : Shown). MayWriteFor v.drivers v.journal c.args.by.seat c.args.client.now.client) (sym c.self.view_is) c.requires.owner in
     queued_book s.journal c.make_room.new.journal c.push.new.self s.documents.items c.reserve_waiting.new.documents.items c.queue.new.self.items s.rooms c.reserve_waiting.new.rooms s.moment s.tokens s.owed s.drivers c.in-Ok-make_room.sum c.len-ticket.result u c.entry_of.result
-    c.self.invariant c.make_room.ensures.entries c.in-Ok-make_room.ensures.room c.push.ensures.entries c.push.ensures.spare (c.queue.ensures.names ∙ c.reserve_waiting.ensures.names) act (may_send j c.entry_of.result.seat c.args.client.now own none) c.len-ticket.ensures.value
+    c.self.invariant c.make_room.ensures.entries c.in-Ok-make_room.ensures.room c.push.ensures.entries c.push.ensures.spare (c.queue.ensures.names ∙ c.reserve_waiting.ensures.names) act (may_send j c.entry_of.result.seat c.args.client.now own none) (own_client j c.entry_of.result.seat c.args.client.now.client (Sent u) refl refl (subst (λ n. MayWriteFor s.drivers j n c.args.client.now.client) (sym (ap (λ (x : Entry). x.seat) c.entry_of.ensures)) writes)) c.len-ticket.ensures.value
     (subst (λ d. Turns d IsKeptAs s.documents.items c.reserve_waiting.new.documents.items) doc c.reserve_waiting.ensures.kept) (subst (λ d. Turns d (IsQueued c.len-ticket.result) c.reserve_waiting.new.documents.items c.queue.new.self.items) doc c.queue.ensures.queued)
     c.reserve_waiting.ensures.roomier (subst (λ d. (x : Document) → slice_get c.reserve_waiting.new.documents.items d ≡ Some x → HaveRoom d (length x.waiting.items + 1) c.reserve_waiting.new.rooms) doc c.in-Ok-reserve_waiting.ensures.told)
 
@@ -86,7 +90,7 @@ pub returns-clause-client : goal.returns-clause-client
 returns-clause-client g c =
     let s = c.self.inside in
     let j = entries s.journal in
-    let own : IsClientOf j c.args.client.now = subst (λ (v : Shown). IsClientOf v.journal c.args.client.now) (sym c.self.view_is) c.requires in
+    let own : IsClientOf j c.args.client.now = subst (λ (v : Shown). IsClientOf v.journal c.args.client.now) (sym c.self.view_is) c.requires.client in
     let none = sym c.refused_send.ensures ∙ c.in_default.is in
     let sent = c.in_ok-sent.ensures.ok in
     let u : Update = rules.update_from c.args.client.now.client c.args.client.now.now (clock j) (c.args.client.now.now.number + 1) c.args.client.now.now.pending [] in

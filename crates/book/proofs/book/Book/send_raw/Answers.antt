@@ -18,6 +18,7 @@ use Rattle.book.proofs.Roomed.{roomed_quiet_by}
 use Rattle.book.proofs.Sending.{queued_book, reserved_book}
 use Rattle.project_histories.proofs.Histories.{histories_by}
 use Rattle.book.proofs.Stored.{keeps_by}
+use Rattle.turn_rules.proofs.Owning.{own_other, owned_by}
 use Rattle.book.proofs.book.Book.send_raw.Goals as goal
 
 pub invariant_of-self-in-Err : goal.invariant_of-self-in-Err
@@ -32,6 +33,7 @@ invariant_of-self-in-Err g c =
       roomed = roomed_quiet_by s.rooms (entries s.journal) (entries c.make_room.new.journal) (entries c.push.new.self) c.args.by.seat c.args.by.line (Malformed c.args.raw.now.doc c.in-Err.fault) c.entry_of.result c.entry_of.ensures c.make_room.ensures.entries c.push.ensures.entries c.self.invariant.book.stands.legal tt refl (λ d. refl) c.self.invariant.roomed;
       keeps = keeps_by (entries s.journal) (entries c.make_room.new.journal) (entries c.push.new.self) c.args.by.seat c.args.by.line (Malformed c.args.raw.now.doc c.in-Err.fault) c.entry_of.result c.entry_of.ensures c.make_room.ensures.entries c.push.ensures.entries (λ d o. refl) refl tt c.self.invariant.keeps;
       histories = histories_by s.projects (entries s.journal) (entries c.make_room.new.journal) (entries c.push.new.self) c.args.by.seat c.args.by.line (Malformed c.args.raw.now.doc c.in-Err.fault) c.entry_of.result c.entry_of.ensures c.make_room.ensures.entries c.push.ensures.entries c.self.invariant.book.stands.legal refl (λ p. refl) (λ p. refl) c.self.invariant.histories;
+      owned = owned_by (entries s.journal) (entries c.make_room.new.journal) (entries c.push.new.self) c.args.by.seat c.args.by.line (Malformed c.args.raw.now.doc c.in-Err.fault) c.entry_of.result c.entry_of.ensures c.make_room.ensures.entries c.push.ensures.entries (own_other (entries s.journal) c.args.by.seat (Malformed c.args.raw.now.doc c.in-Err.fault) refl refl) c.self.invariant.owned;
     }
 
 pub invariant_of-self-in_default-reserve_waiting : goal.invariant_of-self-in_default-reserve_waiting
@@ -54,6 +56,6 @@ invariant_of-self-2 g c =
     let at : c.args.raw.now.doc ≡ u.doc = ap (λ (x : Update). x.doc) (sym u_is) in
     queued_book s.journal c.make_room-2.new.journal c.push-2.new.self s.documents.items c.reserve_waiting.new.documents.items c.queue.new.self.items s.rooms c.reserve_waiting.new.rooms s.moment s.tokens s.owed s.drivers c.in-Ok-make_room-2.sum c.len-ticket.result u c.entry_of-2.result
     c.self.invariant c.make_room-2.ensures.entries c.in-Ok-make_room-2.ensures.room c.push-2.ensures.entries c.push-2.ensures.spare (c.queue.ensures.names ∙ c.reserve_waiting.ensures.names)
-    (ap (λ (e : Entry). e.act) c.entry_of-2.ensures) (subst (λ (x : Update). IsAllowed (entries s.journal) c.entry_of-2.result.seat (Sent x)) (sym u_is) row) c.len-ticket.ensures.value
+    (ap (λ (e : Entry). e.act) c.entry_of-2.ensures) (subst (λ (x : Update). IsAllowed (entries s.journal) c.entry_of-2.result.seat (Sent x)) (sym u_is) row) (own_other (entries s.journal) c.entry_of-2.result.seat (Sent u) (ap (λ (x : Update). x.client) u_is) refl) c.len-ticket.ensures.value
     (subst (λ d. Turns d IsKeptAs s.documents.items c.reserve_waiting.new.documents.items) at c.reserve_waiting.ensures.kept) (subst (λ d. Turns d (IsQueued c.len-ticket.result) c.reserve_waiting.new.documents.items c.queue.new.self.items) at c.queue.ensures.queued)
     c.reserve_waiting.ensures.roomier (subst (λ d. (x : Document) → slice_get c.reserve_waiting.new.documents.items d ≡ Some x → HaveRoom d (length x.waiting.items + 1) c.reserve_waiting.new.rooms) at c.in-Ok-reserve_waiting.ensures.told)
