@@ -7,6 +7,7 @@ ghost use Rattle.journal_rules.specs.Client.{client as client_lem};
 ghost use Rattle.share_client.specs.Edits.{IsEdit, edit_comp, edit_end, edit_fault};
 ghost use Rattle.turn_rules.specs.Clients.{edit_act};
 ghost use Rattle.client_lines.specs.Refusals.{edit_why};
+ghost use Rattle.turn_rules.specs.Owning.{MayWriteFor};
 
 use book::{Book, By};
 use journal_entries::Why;
@@ -23,6 +24,7 @@ pub(crate) fn edit<K: Keeper>(
     edit: &Edit,
 ) -> Result<(), AllocError>
     requires client { IsClientOf book.old.journal client.old }
+    requires owner { MayWriteFor book.old.drivers book.old.journal by.seat client.old.client }
     requires edit { IsEdit edit.now }
     ensures edits { OnOk result (book.new ≡ adds book.old by.seat by.line (edit_act client.old.client book.old.journal (edit_end edit.now) (edit_comp (client_lem client.old.client book.old.journal).text edit.now) ∷ [])) }
     ensures client { OnOk result (IsClientAfter book.new.journal client.old client.new) }

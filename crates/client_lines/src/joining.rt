@@ -6,6 +6,7 @@ ghost use Rattle.book.specs.Shown.{adds};
 ghost use Rattle.journal_rules.specs.Documents.{number_of};
 ghost use Rattle.journal_rules.specs.Keeping.{cached};
 ghost use Rattle.client_lines.specs.Joining.{join_act};
+ghost use Rattle.turn_rules.specs.Owning.{MayWriteFor};
 
 use book::{Book, By, JoinFault};
 use journal_entries::Why;
@@ -24,7 +25,8 @@ pub fn join_named<K: Keeper>(
     user: &Name,
     track: bool,
 ) -> Result<(), AllocError>
-    requires { IsClientOf book.old.journal client.old }
+    requires client { IsClientOf book.old.journal client.old }
+    requires owner { MayWriteFor book.old.drivers book.old.journal by.seat client.old.client }
     ensures joins { OnOk result (book.new ≡ adds book.old by.seat by.line (join_act client.old.client (number_of name.now book.old.journal) user.now track book.old.journal ∷ [])) }
     ensures cached { OnOk result ((doc : ℕ) → number_of name.now book.old.journal ≡ Some doc → cached doc book.old.journal ≡ true) }
     ensures client { OnOk result (IsClientAfter book.new.journal client.old client.new) }

@@ -4,6 +4,7 @@ ghost use Rattle.std.specs.Prelude.{◌≡◌, ◌∷◌, [], OnOk, OnErr};
 ghost use Rattle.book.specs.Roomed.{IsClientAfter, IsClientOf};
 ghost use Rattle.book.specs.Shown.{adds};
 ghost use Rattle.turn_rules.specs.Clients.{leave_act};
+ghost use Rattle.turn_rules.specs.Owning.{MayWriteFor};
 
 use book::{Book, By, LeaveFault};
 use journal_entries::Why;
@@ -18,7 +19,8 @@ pub(crate) fn leave<K: Keeper>(
     client: &mut ShareClient,
     by: By,
 ) -> Result<(), AllocError>
-    requires { IsClientOf book.old.journal client.old }
+    requires client { IsClientOf book.old.journal client.old }
+    requires owner { MayWriteFor book.old.drivers book.old.journal by.seat client.old.client }
     ensures leaves { OnOk result (book.new ≡ adds book.old by.seat by.line (leave_act client.old.client book.old.journal ∷ [])) }
     ensures client { OnOk result (IsClientAfter book.new.journal client.old client.new) }
     ensures kept { OnErr result ((book.new ≡ book.old) × (client.new ≡ client.old)) }

@@ -4,6 +4,7 @@ ghost use Rattle.std.specs.Prelude.{◌≡◌, ◌∷◌, [], OnOk, OnErr};
 ghost use Rattle.book.specs.Roomed.{IsClientAfter, IsClientOf};
 ghost use Rattle.book.specs.Shown.{adds};
 ghost use Rattle.client_lines.specs.Lines.{IsDoable, client_act};
+ghost use Rattle.turn_rules.specs.Owning.{MayWriteFor};
 
 use crate::edits::edit;
 use crate::leaving::leave;
@@ -41,6 +42,7 @@ pub fn do_line<K: Keeper>(
     line: &ClientLine,
 ) -> Result<(), AllocError>
     requires client { IsClientOf book.old.journal client.old }
+    requires owner { MayWriteFor book.old.drivers book.old.journal by.seat client.old.client }
     requires doable { IsDoable line.now }
     ensures does { OnOk result (book.new ≡ adds book.old by.seat by.line (client_act client.old.client book.old.journal line.now ∷ [])) }
     ensures client { OnOk result (IsClientAfter book.new.journal client.old client.new) }

@@ -4,6 +4,7 @@ ghost use Rattle.std.specs.Prelude.{◌≡◌, ◌∷◌, [], OnOk, OnErr};
 ghost use Rattle.book.specs.Roomed.{IsClientAfter, IsClientOf};
 ghost use Rattle.book.specs.Shown.{adds};
 ghost use Rattle.turn_rules.specs.Clients.{rejoin_act};
+ghost use Rattle.turn_rules.specs.Owning.{MayWriteFor};
 
 use book::{Book, By, JoinFault};
 use journal_entries::Why;
@@ -18,7 +19,8 @@ pub(crate) fn rejoin<K: Keeper>(
     client: &mut ShareClient,
     by: By,
 ) -> Result<(), AllocError>
-    requires { IsClientOf book.old.journal client.old }
+    requires client { IsClientOf book.old.journal client.old }
+    requires owner { MayWriteFor book.old.drivers book.old.journal by.seat client.old.client }
     ensures joins { OnOk result (book.new ≡ adds book.old by.seat by.line (rejoin_act client.old.client book.old.journal ∷ [])) }
     ensures client { OnOk result (IsClientAfter book.new.journal client.old client.new) }
     ensures kept { OnErr result ((book.new ≡ book.old) × (client.new ≡ client.old)) }

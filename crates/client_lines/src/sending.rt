@@ -5,6 +5,7 @@ ghost use Rattle.book.specs.Roomed.{IsClientAfter, IsClientOf};
 ghost use Rattle.book.specs.Shown.{adds};
 ghost use Rattle.turn_rules.specs.Clients.{resend_act, send_act};
 ghost use Rattle.client_lines.specs.Refusals.{send_why};
+ghost use Rattle.turn_rules.specs.Owning.{MayWriteFor};
 
 use book::{Book, By};
 use journal_entries::Why;
@@ -19,7 +20,8 @@ pub(crate) fn send<K: Keeper>(
     client: &mut ShareClient,
     by: By,
 ) -> Result<(), AllocError>
-    requires { IsClientOf book.old.journal client.old }
+    requires client { IsClientOf book.old.journal client.old }
+    requires owner { MayWriteFor book.old.drivers book.old.journal by.seat client.old.client }
     ensures sends { OnOk result (book.new ≡ adds book.old by.seat by.line (send_act client.old.client book.old.journal ∷ [])) }
     ensures client { OnOk result (IsClientAfter book.new.journal client.old client.new) }
     ensures kept { OnErr result ((book.new ≡ book.old) × (client.new ≡ client.old)) }
@@ -40,7 +42,8 @@ pub(crate) fn resend<K: Keeper>(
     client: &mut ShareClient,
     by: By,
 ) -> Result<(), AllocError>
-    requires { IsClientOf book.old.journal client.old }
+    requires client { IsClientOf book.old.journal client.old }
+    requires owner { MayWriteFor book.old.drivers book.old.journal by.seat client.old.client }
     ensures sends { OnOk result (book.new ≡ adds book.old by.seat by.line (resend_act client.old.client book.old.journal ∷ [])) }
     ensures client { OnOk result (IsClientAfter book.new.journal client.old client.new) }
     ensures kept { OnErr result ((book.new ≡ book.old) × (client.new ≡ client.old)) }

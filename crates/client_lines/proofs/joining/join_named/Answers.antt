@@ -13,7 +13,7 @@ use Rattle.client_lines.proofs.Declining.{declined_client, on_ok}
 use Rattle.client_lines.proofs.joining.join_named.Goals as goal
 
 pub returns-in_default-clause-client : goal.returns-in_default-clause-client
-returns-in_default-clause-client g c = on_ok c.decline.result (λ is. declined_client c.args.book.now c.decline.new.self c.args.by.seat c.args.by.line c.client.result _ c.args.client.now c.args.client.now c.requires refl is) c.decline.ensures.ok
+returns-in_default-clause-client g c = on_ok c.decline.result (λ is. declined_client c.args.book.now c.decline.new.self c.args.by.seat c.args.by.line c.client.result _ c.args.client.now c.args.client.now c.requires.client refl is) c.decline.ensures.ok
 
 pub returns-in-Ok-clause-cached : goal.returns-in-Ok-clause-cached
 returns-in-Ok-clause-cached g c = λ doc named.

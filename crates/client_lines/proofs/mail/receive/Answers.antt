@@ -15,5 +15,5 @@ decline-requires g c =
 pub returns-in_default-clause-client : goal.returns-in_default-clause-client
 returns-in_default-clause-client g c =
     let none = c.in_ok-_message.ensures.none c.in_default.is in
-    let own = subst (λ (v : Shown). IsClientOf v.journal c.args.client.now) (sym none.0) c.requires in
+    let own = subst (λ (v : Shown). IsClientOf v.journal c.args.client.now) (sym none.0) c.requires.client in
     on_ok c.decline.result (λ is. declined_client c.receive.new.self c.decline.new.self c.args.by.seat c.args.by.line c.client.result _ c.args.client.now c.receive.new.client own none.1 is) c.decline.ensures.ok

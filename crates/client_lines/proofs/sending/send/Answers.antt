@@ -7,5 +7,5 @@ use Rattle.client_lines.proofs.sending.send.Goals as goal
 pub returns-in-Some-clause-client : goal.returns-in-Some-clause-client
 returns-in-Some-clause-client g c =
     let kept = c.in-Err.ensures.kept in
-    let own = subst (λ (v : Shown). IsClientOf v.journal c.args.client.now) (sym kept.0) c.requires in
+    let own = subst (λ (v : Shown). IsClientOf v.journal c.args.client.now) (sym kept.0) c.requires.client in
     on_ok c.decline.result (λ is. declined_client c.send.new.self c.decline.new.self c.args.by.seat c.args.by.line c.client.result c.in-Some.why c.args.client.now c.send.new.client own kept.1 is) c.decline.ensures.ok
