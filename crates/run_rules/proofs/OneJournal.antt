@@ -59,8 +59,11 @@ catches_same : (c : ℕ) (left a b : List Entry) → Pair a b → CatchesUp c le
 catches_same c left a b p x y = catch_up_same (is_joined (client c left).state) c left a b p x y
 
 -- ---- rounds
-round_on : (sessions : ℕ) (left last : List Entry) → IsRound sessions left last → Extends left last
-round_on sessions left last x = extends_on left x.0 last (in_order_on DrainsDry dry_on (length (makings left)) left x.0 x.1) (in_order_on CatchesUp catches_on sessions x.0 last x.2)
+pub drains_all_on : (docs : ℕ) (left last : List Entry) → InOrder DrainsDry docs left last → Extends left last
+drains_all_on docs left last x = in_order_on DrainsDry dry_on docs left last x
+
+pub round_on : (sessions : ℕ) (left last : List Entry) → IsRound sessions left last → Extends left last
+round_on sessions left last x = extends_on left x.0 last (drains_all_on (length (makings left)) left x.0 x.1) (in_order_on CatchesUp catches_on sessions x.0 last x.2)
 
 round_same : (sessions : ℕ) (left a b : List Entry) → Pair a b → IsRound sessions left a → IsRound sessions left b → a ≡ b
 round_same sessions left a b p x y =

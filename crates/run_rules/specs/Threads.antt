@@ -3,8 +3,7 @@ use Rattle.std.specs.Prelude.{◌≡◌, ◌⊎◌, ℕ, ◌+◌, ◌%◌, ◌<�
 use Rattle.std.specs.List.{list_all}
 use Rattle.journal_entries.specs.declared.act.Act.TheVariants.{Closed}
 use Rattle.journal_entries.specs.declared.act.Entry.{Entry}
-use Rattle.journal_rules.specs.Documents.{makings, waiting, is_in}
-use Rattle.journal_rules.specs.Legal.{closed}
+use Rattle.journal_rules.specs.Documents.{makings, waiting}
 use Rattle.journal_rules.specs.Locks.{Acquiring, HeldBy, is_expired}
 use Rattle.session_lines.specs.declared.line.Line.{Line}
 use Rattle.session_lines.specs.Script.{makes_document, session_of}
@@ -14,6 +13,9 @@ use Rattle.turn_rules.specs.Flushing.{FlushesFrom}
 use Rattle.run_rules.specs.Keeping.{nothing_kept}
 use Rattle.run_rules.specs.Lines.{Leads, numbered}
 use Rattle.turn_rules.specs.Locking.{unavailable}
+use Rattle.turn_rules.specs.Owning.{IsEachClosed}
+pub use Rattle.turn_rules.specs.Owning.{driver_seat}
+pub use Rattle.turn_rules.specs.Turns.{is_by}
 use Rattle.turn_rules.specs.Turns.{Alone, Among, entry_by}
 
 -- how many drivers and workers a run has, beside its one flusher
@@ -21,10 +23,7 @@ pub record Crew : Type 0 where
   pub drivers : ℕ
   pub workers : ℕ
 
--- the seats: seat 0 makes the documents and ends the run, then come the drivers, the workers and the flusher
-abbrev pub driver_seat : ℕ → ℕ
-driver_seat driver = 1 + driver
-
+-- the seats: seat 0 makes the documents and ends the run, then come the drivers (`driver_seat`), the workers and the flusher
 abbrev pub worker_seat : Crew → ℕ → ℕ
 worker_seat crew worker = 1 + crew.drivers + worker
 
@@ -49,10 +48,6 @@ is_driven_by crew driver None = false
 
 abbrev pub lines_of_driver : Crew → ℕ → List Line → List (ℕ × Line)
 lines_of_driver crew driver lines = filter (λ x. is_driven_by crew driver (session_of x.1)) (numbered 1 lines)
-
--- one's own entries
-abbrev pub is_by : ℕ → Entry → Bool
-is_by seat e = e.seat == seat
 
 -- the entry that closes a driver
 abbrev pub closing : ℕ → Entry
@@ -87,7 +82,7 @@ FlusherFollows crew start journal = (n : ℕ) × FlushesOn (flusher_seat crew) n
 
 -- a journal in which each driver has closed
 abbrev pub IsClosed : Crew → List Entry → Type 0
-IsClosed crew journal = (driver : ℕ) → driver < crew.drivers → is_in driver (closed journal) ≡ true
+IsClosed crew journal = IsEachClosed crew.drivers journal
 
 -- the workers left a document to the end: each driver had closed, and nothing waited, or another than a worker held the document
 pub record IsHeldByAnother (crew : Crew) (doc : ℕ) (seen : List Entry) : Type 0 where

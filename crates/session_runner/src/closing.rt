@@ -10,6 +10,7 @@ ghost use Rattle.journal_rules.specs.Locks.{clock};
 ghost use Rattle.ending_rules.specs.Rounds.{any_below, has_any, is_unfinished as is_unfinished_lem, needs_round as needs_round_lem};
 ghost use Rattle.turn_rules.specs.Clients.{is_joined as is_joined_lem};
 ghost use Rattle.turn_rules.specs.Locking.{busy};
+ghost use Rattle.turn_rules.specs.Owning.{MayEnd, MayWriteFor};
 ghost use Rattle.turn_rules.specs.Turns.{entry_by};
 ghost use Rattle.run_rules.specs.Ending.{CatchesUp, DrainsDry, Ends, FlushesAtEnd, InOrder, Rounds, at_end, sending_acts};
 ghost use Rattle.share_client.specs.Clients.{told_send};
@@ -67,6 +68,7 @@ fn go_rounds<K: Keeper>(
     clients: &mut Vec<ShareClient>,
 ) -> Result<(), AllocError>
     requires free { (doc : ℕ) → busy doc book.old.journal ≡ None }
+    requires ends { MayEnd book.old.drivers book.old.journal }
     requires clients { AreClientsOf clients.old.items book.old.journal }
     ensures rounds { OnOk result (Rounds (length clients.old.items) 3 book.old.journal book.new.journal) }
     ensures free { OnOk result ((doc : ℕ) → busy doc book.new.journal ≡ None) }
@@ -178,6 +180,7 @@ fn catch_up_all<K: Keeper>(
     clients: &mut Vec<ShareClient>,
 ) -> Result<(), AllocError>
     requires free { (doc : ℕ) → busy doc book.old.journal ≡ None }
+    requires ends { MayEnd book.old.drivers book.old.journal }
     requires clients { AreClientsOf clients.old.items book.old.journal }
     ensures catches { OnOk result (InOrder CatchesUp (length clients.old.items) book.old.journal book.new.journal) }
     ensures free { OnOk result ((doc : ℕ) → busy doc book.new.journal ≡ None) }
@@ -193,7 +196,8 @@ fn catch_up_all<K: Keeper>(
 
 // A client that is joined gets all of its mail, and then sends.
 fn catch_up<K: Keeper>(book: &mut Book<K>, client: &mut ShareClient) -> Result<(), AllocError>
-    requires { IsClientOf book.old.journal client.old }
+    requires client { IsClientOf book.old.journal client.old }
+    requires owner { MayWriteFor book.old.drivers book.old.journal 0 client.old.client }
     ensures catches { OnOk result (CatchesUp client.old.client book.old.journal book.new.journal) }
     ensures client { OnOk result (IsClientAfter book.new.journal client.old client.new) }
     ensures quiet { OnOk result (GoesQuietly client.old.client book.old.journal book.new.journal) }
@@ -209,7 +213,8 @@ fn catch_up<K: Keeper>(book: &mut Book<K>, client: &mut ShareClient) -> Result<(
 // A client sends again what is in flight, or else what is pending. It sends nothing where it isn't
 // joined any more or has nothing to send.
 fn send_own<K: Keeper>(book: &mut Book<K>, client: &mut ShareClient) -> Result<(), AllocError>
-    requires { IsClientOf book.old.journal client.old }
+    requires client { IsClientOf book.old.journal client.old }
+    requires owner { MayWriteFor book.old.drivers book.old.journal 0 client.old.client }
     ensures sends { OnOk result (book.new.journal ≡ book.old.journal ++ map at_end (sending_acts client.old.client book.old.journal)) }
     ensures client { IsClientAfter book.new.journal client.old client.new }
     ensures rest { OnOk result (book.new ≡ with_journal book.old book.new.journal) }

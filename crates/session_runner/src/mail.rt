@@ -4,6 +4,7 @@ ghost use Rattle.std.specs.Prelude.{◌≡◌, OnOk};
 ghost use Rattle.book.specs.Going.{with_journal};
 ghost use Rattle.book.specs.Roomed.{IsClientAfter, IsClientOf};
 ghost use Rattle.run_rules.specs.Lines.{Gets};
+ghost use Rattle.turn_rules.specs.Owning.{MayWriteFor};
 ghost use Rattle.turn_rules.specs.Turns.{Alone, entry_by};
 ghost use Rattle.session_runner.specs.Clients.{GoesQuietly};
 
@@ -19,6 +20,7 @@ pub(crate) fn receive_all<K: Keeper>(
     by: By,
 ) -> Result<(), AllocError>
     requires client { IsClientOf book.old.journal client.old }
+    requires owner { MayWriteFor book.old.drivers book.old.journal by.seat client.old.client }
     requires seat { by.seat ≡ 0 }
     ensures gets { OnOk result (Gets (entry_by by.seat by.line) Alone client.old.client book.old.journal book.new.journal) }
     ensures client { OnOk result (IsClientAfter book.new.journal client.old client.new) }

@@ -8,6 +8,7 @@ ghost use Rattle.book.specs.Going.{with_journal};
 ghost use Rattle.book.specs.Roomed.{IsClientAfter, IsClientOf};
 ghost use Rattle.journal_rules.specs.Locks.{next_token};
 ghost use Rattle.run_rules.specs.Lines.{Syncs};
+ghost use Rattle.turn_rules.specs.Owning.{MayWriteFor};
 ghost use Rattle.turn_rules.specs.Turns.{Alone, entry_by};
 ghost use Rattle.turn_rules.specs.Clients.{is_present as is_present_lem};
 ghost use Rattle.session_runner.specs.Syncing.{GoesApartThenQuietly};
@@ -30,6 +31,7 @@ pub(crate) fn sync_client<K: Keeper>(
     by: By,
 ) -> Result<(), AllocError>
     requires client { IsClientOf book.old.journal client.old }
+    requires owner { MayWriteFor book.old.drivers book.old.journal by.seat client.old.client }
     requires seat { by.seat ≡ 0 }
     ensures syncs { OnOk result (Syncs (entry_by 0 by.line) Alone client.old.client book.old.journal book.new.journal) }
     ensures client { OnOk result (IsClientAfter book.new.journal client.old client.new) }

@@ -4,7 +4,9 @@ use Rattle.std.proofs.lemmas.List.{length-set}
 use Rattle.std.proofs.lemmas.Option.{slice_get-get_or}
 use Rattle.run_rules.specs.Ending.{CatchesUp}
 use Rattle.share_client.specs.Clients.{Numbered}
+use Rattle.turn_rules.proofs.Owning.{may_write_later}
 use Rattle.book.specs.Going.{with_journal}
+use Rattle.book.specs.Shown.{Shown}
 use Rattle.session_runner.specs.Clients.{AreClientsOf, StayOthers}
 use Rattle.session_runner.proofs.Clients.{one_moves}
 use Rattle.session_runner.proofs.Quiet.{quiet_others}
@@ -16,12 +18,16 @@ loop-client-init g c = record {
   catches = refl;
   rest = refl;
   free = c.requires.free;
+  ends = c.requires.ends;
   clients = subst (λ (l : List Numbered). AreClientsOf l c.args.book.now.journal) (sym c.deref_mut-client-items.ensures.value) c.requires.clients;
   sessions = refl;
 }
 
-pub catch_up-requires : goal.catch_up-requires
-catch_up-requires g c =
+pub catch_up-requires-clause-owner : goal.catch_up-requires-clause-owner
+catch_up-requires-clause-owner g c = c.loop-client.invariant.ends _
+
+pub catch_up-requires-clause-client : goal.catch_up-requires-clause-client
+catch_up-requires-clause-client g c =
     let items = c.loop-client.client-items in let at = c.loop-client.client-index in
     let was = c.loop-client.invariant in let low = c.loop-client-test.true in let many = was.sessions in
     let item = get_or items at c.client-item.result in
@@ -40,6 +46,7 @@ loop-client-preserved g c =
       catches = in_order_on CatchesUp at c.args.book.now.journal j k was.catches (subst (λ n. CatchesUp n j k) own done.catches);
       rest = done.rest ∙ ap (λ b. with_journal b k) was.rest;
       free = λ d. quiet_free item.client j k done.quiet d (was.free d);
+      ends = λ n. may_write_later c.loop-client.book.drivers c.catch_up.new.book.drivers j k done.quiet.more 0 n (ap (λ (b : Shown). b.drivers) done.rest) done.quiet.last_is (was.ends n);
       clients = one_moves items at item c.catch_up.new.client j k there done.client (subst (λ n. StayOthers n j k) own (quiet_others item.client j k done.quiet)) was.clients;
       sessions = length-set items at c.catch_up.new.client ∙ was.sessions;
     }

@@ -9,7 +9,9 @@ use Rattle.journal_rules.specs.Legal.{IsLegal}
 use Rattle.journal_rules.specs.Locks.{clock}
 use Rattle.journal_rules.proofs.Pushing.{clock-push}
 use Rattle.turn_rules.specs.Locking.{busy}
+use Rattle.turn_rules.specs.Owning.{driver_owner}
 use Rattle.turn_rules.specs.Turns.{entry_by}
+use Rattle.turn_rules.proofs.Owning.{one_thread_writes}
 use Rattle.run_rules.specs.Ending.{Rounds, at_end}
 use Rattle.run_rules.proofs.Free.{expired}
 use Rattle.run_rules.proofs.OneJournal.{rounds_on}
@@ -22,6 +24,14 @@ use Rattle.session_runner.proofs.closing.end_run.Goals as goal
 
 pub close_driver-requires-clause-once : goal.close_driver-requires-clause-once
 close_driver-requires-clause-once g c = ap (is_in 0) c.requires.closed
+
+pub close_driver-requires-clause-owner : goal.close_driver-requires-clause-owner
+close_driver-requires-clause-owner g c = sym (ap (λ n. driver_owner n 0) c.requires.drivers)
+
+pub go_rounds-requires-clause-ends : goal.go_rounds-requires-clause-ends
+go_rounds-requires-clause-ends g c =
+    let alone = ap (λ (b : Shown). b.drivers) c.in_ok-tick.ensures ∙ ap (λ (b : Shown). b.drivers) c.close_driver.ensures ∙ c.requires.drivers in
+    λ n. one_thread_writes c.tick.new.book.drivers c.tick.new.book.journal 0 n alone refl
 
 pub tick-requires : goal.tick-requires
 tick-requires g c =

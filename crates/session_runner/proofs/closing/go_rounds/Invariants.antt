@@ -1,6 +1,7 @@
 use Rattle.std.proofs.Common.{◌≡◌, ℕ, List, length, None}
 use Rattle.journal_entries.specs.declared.act.Entry.{Entry}
 use Rattle.turn_rules.specs.Locking.{busy}
+use Rattle.turn_rules.specs.Owning.{MayEnd}
 use Rattle.run_rules.specs.Ending.{Rounds}
 use Rattle.book.specs.Going.{with_journal}
 use Rattle.session_runner.specs.Clients.{AreClientsOf}
@@ -11,6 +12,7 @@ abbrev pub invariant-rounds : goal.invariant-rounds
 invariant-rounds g l = record {
   rest : l.book ≡ with_journal l.initial.book l.book.journal;
   free : (doc : ℕ) → busy doc l.book.journal ≡ None;
+  ends : MayEnd l.book.drivers l.book.journal;
   clients : AreClientsOf l.clients.items l.book.journal;
   sessions : length l.clients.items ≡ length l.initial.clients.items;
   goes : (last : List Entry) → Rounds (length l.initial.clients.items) l.left l.book.journal last → Rounds (length l.initial.clients.items) 3 l.initial.book.journal last;

@@ -16,7 +16,7 @@ returns-then-is_some g c =
     let flight = sym (flies c.flight.result s.now.flight c.flight.ensures) ∙ sym c.is_some.ensures ∙ c.if-is_some.true in
     record {
       sends = on_ok_weaker c.unless_memory.result
-          (λ told. sends_its s.client s.now c.args.book.now c.resend.new.self c.requires (again_fault s.now) (update_from s.client s.now (clock j) s.now.number (unwrap_or s.now.flight []) s.now.sources) (resending_now s.client s.now (clock j))
+          (λ told. sends_its s.client s.now c.args.book.now c.resend.new.self c.requires.client (again_fault s.now) (update_from s.client s.now (clock j) s.now.number (unwrap_or s.now.flight []) s.now.sources) (resending_now s.client s.now (clock j))
           (λ f at. unsent_again s.client s.now (clock j) f flight at) _ c.resend.result told by.ok by.refused by.kept) c.unless_memory.ensures;
       client = by.client;
       rest = on_ok_weaker c.unless_memory.result (λ told. rest_either _ _ c.resend.result c.args.book.now c.resend.new.self 0 None (Sent (update_from s.client s.now (clock j) s.now.number (unwrap_or s.now.flight []) s.now.sources)) by.ok by.kept) c.unless_memory.ensures;
@@ -28,7 +28,7 @@ returns g c =
     let flight = sym (flies c.flight.result s.now.flight c.flight.ensures) ∙ sym c.is_some.ensures ∙ c.if-is_some.false in
     record {
       sends = on_ok_weaker c.unless_memory-2.result
-          (λ told. sends_its s.client s.now c.args.book.now c.send.new.self c.requires (send_fault s.now) (update_from s.client s.now (clock j) (s.now.number + 1) s.now.pending []) (sending_now s.client s.now (clock j))
+          (λ told. sends_its s.client s.now c.args.book.now c.send.new.self c.requires.client (send_fault s.now) (update_from s.client s.now (clock j) (s.now.number + 1) s.now.pending []) (sending_now s.client s.now (clock j))
           (λ f at. unsent s.client s.now (clock j) f flight at) _ c.send.result told by.ok by.refused by.kept) c.unless_memory-2.ensures;
       client = by.client;
       rest = on_ok_weaker c.unless_memory-2.result (λ told. rest_either _ _ c.send.result c.args.book.now c.send.new.self 0 None (Sent (update_from s.client s.now (clock j) (s.now.number + 1) s.now.pending [])) by.ok by.kept) c.unless_memory-2.ensures;

@@ -1,7 +1,9 @@
 use Rattle.std.proofs.Common.{ℕ, ◌∙◌, true≢false, sym, ap, subst, refl}
 use Rattle.std.specs.Prelude.{is_some, slice_get}
 use Rattle.journal_rules.specs.Mail.{mail}
+use Rattle.turn_rules.specs.Owning.{MayWriteFor}
 use Rattle.turn_rules.specs.Turns.{Alone, entry_by}
+use Rattle.turn_rules.proofs.Owning.{may_write_later}
 use Rattle.run_rules.specs.Lines.{Gets}
 use Rattle.book.specs.Going.{with_journal}
 use Rattle.book.specs.Shown.{Shown}
@@ -14,6 +16,7 @@ pub getting-init : goal.getting-init
 getting-init g c = record {
   goes = λ last rest. rest;
   client = record { client_is = refl; stands = c.requires.client };
+  owner = c.requires.owner;
   quiet = quiet_none c.args.client.now.client c.args.book.now.journal c.args.book.now.journal refl;
   rest = refl;
 }
@@ -26,12 +29,16 @@ getting-smaller g c =
 pub getting-preserved : goal.getting-preserved
 getting-preserved g c =
     let was = c.getting.invariant in let got = c.in_ok-receive.ensures in
+    let some = sym c.is_some.ensures ∙ c.if-is_some.true in
+    let more = gets_quietly c.args.by.seat c.args.by.line c.args.client.now c.getting.client c.getting.book c.receive.new.self c.in_ok-receive.field-0 c.requires.seat was.client.client_is some got.first got.got in
+    let rest = gets_rest c.args.by.seat c.args.by.line c.args.client.now c.getting.client c.getting.book c.receive.new.self c.in_ok-receive.field-0 c.requires.seat was.client.client_is some got.first got.got in
     record {
-      goes = λ last rest. was.goes last (gets_first c.args.by.seat c.args.by.line c.args.client.now c.getting.client c.getting.book c.receive.new.self c.in_ok-receive.field-0 c.requires.seat was.client.client_is (sym c.is_some.ensures ∙ c.if-is_some.true) got.first got.got last rest);
+      goes = λ last tail. was.goes last (gets_first c.args.by.seat c.args.by.line c.args.client.now c.getting.client c.getting.book c.receive.new.self c.in_ok-receive.field-0 c.requires.seat was.client.client_is some got.first got.got last tail);
       client = record { client_is = got.client.client_is ∙ was.client.client_is; stands = got.client.stands };
-      quiet = quiet_on c.args.client.now.client c.args.book.now.journal c.getting.book.journal c.receive.new.self.journal was.quiet
-          (gets_quietly c.args.by.seat c.args.by.line c.args.client.now c.getting.client c.getting.book c.receive.new.self c.in_ok-receive.field-0 c.requires.seat was.client.client_is (sym c.is_some.ensures ∙ c.if-is_some.true) got.first got.got);
-      rest = gets_rest c.args.by.seat c.args.by.line c.args.client.now c.getting.client c.getting.book c.receive.new.self c.in_ok-receive.field-0 c.requires.seat was.client.client_is (sym c.is_some.ensures ∙ c.if-is_some.true) got.first got.got ∙ ap (λ b. with_journal b c.receive.new.self.journal) was.rest;
+      owner = may_write_later c.getting.book.drivers c.receive.new.self.drivers c.getting.book.journal c.receive.new.self.journal more.more c.args.by.seat c.receive.new.client.client (ap (λ (b : Shown). b.drivers) rest) more.last_is
+          (subst (λ n. MayWriteFor c.getting.book.drivers c.getting.book.journal c.args.by.seat n) (sym got.client.client_is) was.owner);
+      quiet = quiet_on c.args.client.now.client c.args.book.now.journal c.getting.book.journal c.receive.new.self.journal was.quiet more;
+      rest = rest ∙ ap (λ b. with_journal b c.receive.new.self.journal) was.rest;
     }
 
 pub returns-clause-gets : goal.returns-clause-gets

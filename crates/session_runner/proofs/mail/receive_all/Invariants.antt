@@ -1,6 +1,7 @@
 use Rattle.std.proofs.Common.{◌≡◌, List, length}
 use Rattle.journal_entries.specs.declared.act.Entry.{Entry}
 use Rattle.journal_rules.specs.Mail.{mail}
+use Rattle.turn_rules.specs.Owning.{MayWriteFor}
 use Rattle.turn_rules.specs.Turns.{Alone, entry_by}
 use Rattle.run_rules.specs.Lines.{Gets}
 use Rattle.book.specs.Going.{with_journal}
@@ -13,6 +14,7 @@ abbrev pub invariant-getting : goal.invariant-getting
 invariant-getting g l = record {
   goes : (last : List Entry) → Gets (entry_by 0 l.by.line) Alone l.initial.client.client l.book.journal last → Gets (entry_by 0 l.by.line) Alone l.initial.client.client l.initial.book.journal last;
   client : IsClientAfter l.book.journal l.initial.client l.client;
+  owner : MayWriteFor l.book.drivers l.book.journal l.by.seat l.client.client;
   quiet : GoesQuietly l.initial.client.client l.initial.book.journal l.book.journal;
   rest : l.book ≡ with_journal l.initial.book l.book.journal;
 }

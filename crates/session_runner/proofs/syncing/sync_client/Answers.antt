@@ -1,6 +1,8 @@
 use Rattle.std.proofs.Common.{◌≡◌, ◌∙◌, refl, sym, ap, subst}
 use Rattle.std.proofs.lemmas.Result.{on_ok_weaker}
 use Rattle.journal_rules.specs.Locks.{next_token}
+use Rattle.turn_rules.proofs.Owning.{may_write_later}
+use Rattle.book.specs.Shown.{Shown}
 use Rattle.client_lines.proofs.Declining.{declined_client}
 use Rattle.session_runner.proofs.Apart.{same_clients}
 use Rattle.session_runner.proofs.syncing.sync_client.Goals as goal
@@ -12,3 +14,8 @@ pub receive_all-requires-clause-client : goal.receive_all-requires-clause-client
 receive_all-requires-clause-client g c =
     let old = c.args.book.now.journal in
     c.requires.client ∙ sym (same_clients (next_token old) old c.drain_waiting.new.book.journal c.in_ok-drain_waiting.ensures.apart c.args.client.now.client)
+
+pub receive_all-requires-clause-owner : goal.receive_all-requires-clause-owner
+receive_all-requires-clause-owner g c =
+    let old = c.args.book.now in let new = c.drain_waiting.new.book in let drained = c.in_ok-drain_waiting.ensures in
+    may_write_later old.drivers new.drivers old.journal new.journal drained.apart.more c.args.by.seat c.args.client.now.client (ap (λ (b : Shown). b.drivers) drained.rest) drained.apart.last_is c.requires.owner

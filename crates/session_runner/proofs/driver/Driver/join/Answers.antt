@@ -8,6 +8,7 @@ use Rattle.turn_rules.specs.Turns.{entry_by}
 use Rattle.client_lines.specs.Joining.{join_act}
 use Rattle.session_runner.proofs.Lines.{both_ok}
 use Rattle.session_runner.proofs.Owning.{get_there, joins_cached, own_act, own_driver, own_goes, own_join}
+use Rattle.turn_rules.proofs.Owning.{one_thread_writes}
 use Rattle.session_runner.proofs.driver.Driver.join.Goals as goal
 
 pub returns-clause-joins : goal.returns-clause-joins
@@ -35,3 +36,6 @@ returns-clause-quiet g c =
     let at : slice_get c.args.self.now.clients.items c.args.session ≡ Some was = get_there c.args.self.now.clients.items c.args.session was (subst (λ n. c.args.session < n) (sym c.requires.driver.many) c.requires.session) c.in-Some.ensures.value in
     let number = (c.requires.driver.clients.each c.args.session was at).0 in
     on_ok_weaker c.join_named.result (λ g. own_goes c.args.session c.args.self.now.book c.join_named.new.book c.args.by.line _ (own_act c.args.self.now.book c.join_named.new.book c.args.by.seat was.client c.args.session c.args.by.line (λ n. join_act n (number_of c.args.doc.now j) c.args.user.now c.args.track j) c.requires.seat number g) (own_join c.args.session _ _ _ j)) c.join_named.ensures.joins
+
+pub join_named-requires-clause-owner : goal.join_named-requires-clause-owner
+join_named-requires-clause-owner g c = one_thread_writes c.args.self.now.book.drivers c.args.self.now.book.journal c.args.by.seat c.in-Some.client.now.client c.requires.driver.alone c.requires.seat

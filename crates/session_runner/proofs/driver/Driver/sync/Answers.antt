@@ -9,6 +9,7 @@ use Rattle.book.specs.Shown.{Shown}
 use Rattle.session_runner.specs.Syncing.{GoesApartThenQuietly}
 use Rattle.session_runner.proofs.Lines.{both_ok}
 use Rattle.session_runner.proofs.Owning.{get_there, synced_driver}
+use Rattle.turn_rules.proofs.Owning.{one_thread_writes}
 use Rattle.session_runner.proofs.driver.Driver.sync.Goals as goal
 
 pub returns-clause-syncs : goal.returns-clause-syncs
@@ -36,3 +37,6 @@ returns-clause-goes g c =
     let at : slice_get c.args.self.now.clients.items c.args.session ≡ Some was = get_there c.args.self.now.clients.items c.args.session was (subst (λ n. c.args.session < n) (sym c.requires.driver.many) c.requires.session) c.in-Some.ensures.value in
     let number = (c.requires.driver.clients.each c.args.session was at).0 in
     on_ok_weaker c.sync_client.result (λ g. subst (λ n. GoesApartThenQuietly (next_token j) n j c.sync_client.new.book.journal) number g) c.sync_client.ensures.goes
+
+pub sync_client-requires-clause-owner : goal.sync_client-requires-clause-owner
+sync_client-requires-clause-owner g c = one_thread_writes c.args.self.now.book.drivers c.args.self.now.book.journal c.args.by.seat c.in-Some.client.now.client c.requires.driver.alone c.requires.seat

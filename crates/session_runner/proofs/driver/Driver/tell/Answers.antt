@@ -6,6 +6,7 @@ use Rattle.book.specs.Shown.{Shown}
 use Rattle.client_lines.specs.Lines.{client_act}
 use Rattle.session_runner.proofs.Lines.{both_ok}
 use Rattle.session_runner.proofs.Owning.{get_there, own_act, own_driver, own_goes, own_line}
+use Rattle.turn_rules.proofs.Owning.{one_thread_writes}
 use Rattle.session_runner.proofs.driver.Driver.tell.Goals as goal
 
 pub returns-clause-driver : goal.returns-clause-driver
@@ -24,3 +25,6 @@ returns-clause-quiet g c =
     let at : slice_get c.args.self.now.clients.items c.args.session ≡ Some was = get_there c.args.self.now.clients.items c.args.session was (subst (λ n. c.args.session < n) (sym c.requires.driver.many) c.requires.session) c.in-Some.ensures.value in
     let number = (c.requires.driver.clients.each c.args.session was at).0 in
     on_ok_weaker c.do_line.result (λ g. own_goes c.args.session c.args.self.now.book c.do_line.new.book c.args.by.line _ (own_act c.args.self.now.book c.do_line.new.book c.args.by.seat was.client c.args.session c.args.by.line (λ n. client_act n j c.args.line.now) c.requires.seat number g) (own_line c.args.session j c.args.line.now)) c.do_line.ensures.does
+
+pub do_line-requires-clause-owner : goal.do_line-requires-clause-owner
+do_line-requires-clause-owner g c = one_thread_writes c.args.self.now.book.drivers c.args.self.now.book.journal c.args.by.seat c.in-Some.client.now.client c.requires.driver.alone c.requires.seat
