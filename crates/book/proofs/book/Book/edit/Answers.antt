@@ -18,16 +18,6 @@ use Rattle.project_histories.proofs.Histories.{histories_by}
 use Rattle.book.proofs.Stored.{keeps_by}
 use Rattle.book.proofs.book.Book.edit.Goals as goal
 
-pub edit-requires-clause-small : goal.edit-requires-clause-small
-edit-requires-clause-small g c =
-    let j = entries c.self.inside.journal in
-    let own : IsClientOf j c.args.client.now = subst (λ (v : Shown). IsClientOf v.journal c.args.client.now) (sym c.self.view_is) c.requires.client in
-    let joined : c.args.client.now.now.state ≡ Joined = search (rules_, c.state.ensures, c.ne.ensures, c.if-ne.false) in
-    let low : total_units c.args.client.now.now.pending < 2 ^ 32 = subst (λ (s : rules.Client). total_units s.pending < 2 ^ 32) (sym own) (pending_units c.args.client.now.client j c.self.invariant.book.stands.legal (ap (λ (s : rules.Client). rules.is_alive s.state) (sym own) ∙ joined_alive c.args.client.now.now.state joined)) in
-    let n = c.units_of_edit-units.ensures.value in
-    let small = c.units_of_edit-units.ensures.small in
-    omega (arith, low, n, small)
-
 pub invariant_of-self-2 : goal.invariant_of-self-2
 invariant_of-self-2 g c =
     let s = c.self.inside in

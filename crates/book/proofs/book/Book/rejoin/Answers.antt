@@ -144,14 +144,6 @@ returns-in_default-caught_up-clause-refused g c =
     let may : MayReturn was.now j = (left, omega (arith, v, since, test)) in
     rw (← c.self.view_is) may
 
-pub caught_up-requires-clause-own : goal.caught_up-requires-clause-own
-caught_up-requires-clause-own g c =
-    let j = entries c.self.inside.journal in
-    let was = c.args.client.now in
-    let own : IsClientOf j was = subst (λ (v : Shown). IsClientOf v.journal was) (sym c.self.view_is) c.requires in
-    let left : was.now.state ≡ Left = search (rules, c.state.ensures, c.ne.ensures, c.if-ne.false) in
-    left_sized j was c.self.invariant.book.stands.legal own left
-
 pub caught_up-requires-clause-sized : goal.caught_up-requires-clause-sized
 caught_up-requires-clause-sized g c =
     let s = c.self.inside in
