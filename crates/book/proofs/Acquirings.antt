@@ -1,6 +1,6 @@
 -- Each acquiring is known by its token, and which tokens were used.
-use Rattle.std.proofs.Common.{◌≡◌, ◌⊎◌, inl, inr, ℕ, suc, ◌≤◌, ◌<◌, List, [], ◌∷◌, ◌++◌, length, Bool, true, false, ◌||◌, refl, sym, ap, ap₂, ◌∙◌, subst, arith, eqb, append-nil, append_assoc, All}
-use Rattle.std.specs.Prelude.{slice_get, Some, None}
+use Rattle.std.proofs.Common.{◌≡◌, ℕ, suc, List, [], ◌∷◌, ◌++◌, Bool, true, false, ◌||◌, refl, sym, ap, ap₂, ◌∙◌, subst, arith, eqb, append-nil, append_assoc, All}
+use Rattle.std.specs.Prelude.{Some}
 use Rattle.std.proofs.lemmas.Bool.{eqb-true}
 use Rattle.std.proofs.lemmas.List.Elements.{All-append}
 use Rattle.journal_laws.proofs.Joins.{is_in-append}
@@ -9,13 +9,11 @@ use Rattle.journal_entries.specs.declared.act.Act.{Act}
 use Rattle.journal_entries.specs.declared.act.Act.TheVariants.{Committed}
 use Rattle.journal_entries.specs.declared.act.Entry.{Entry}
 use Rattle.journal_rules.specs.Documents.{is_in}
-use Rattle.journal_rules.specs.Locks.{Acquiring, acquiring_of, acquirings, last_acquiring, token_in, next_token, used_by, used}
+use Rattle.journal_rules.specs.Locks.{Acquiring, last_acquiring, next_token, used_by, used}
 use Rattle.journal_rules.specs.Legal.{IsAllowed, IsLegal}
-use Rattle.journal_rules.proofs.Pushing.{acquirings-push, last_acquiring-push, last_acquiring-none, used-push, used-none}
-use Rattle.journal_rules.proofs.Legality.{Keeps, by_last, front, seam, legal_front, allowed_next}
-use Rattle.journal_rules.proofs.Lists.{some_same}
-use Rattle.journal_rules.proofs.Fencing.{token_bound, acquirings_more}
-use Rattle.journal_rules.proofs.Waits.{all_map, all_none, all_one}
+use Rattle.journal_rules.proofs.Pushing.{used-push}
+use Rattle.journal_rules.proofs.Legality.{legal_front, allowed_next}
+use Rattle.journal_rules.proofs.Waits.{all_none, all_one}
 use Rattle.book.specs.Looking.{IsNoCommit}
 pub use Rattle.loading_rules.proofs.Acquirings.{IsKnown, known_more, known_on, known_same}
 use Rattle.loading_rules.proofs.Acquirings as but

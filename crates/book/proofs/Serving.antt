@@ -1,15 +1,10 @@
 -- What a call for a client leaves: its entry is allowed, and the client that was handed in is the journal's again.
-use Rattle.std.proofs.Common.{◌≡◌, ◌⊎◌, inl, inr, ℕ, ◌+◌, ◌≤◌, List, [], ◌∷◌, ◌++◌, length, take, drop, Bool, true, false, not, ◌||◌, refl, sym, ap, ◌∙◌, subst, arith, eqb, eq-eqb, ne_eqb}
-use Rattle.std.specs.Prelude.{Option, Some, None, is_some, nat_lt, unwrap_or, if◌then◌else◌}
-use Rattle.std.proofs.lemmas.Bool.{ltb-false, le-leb, or_parts}
-use Rattle.std.proofs.lemmas.List.{length-take, length-drop}
-use Rattle.std.proofs.lemmas.Slice.Eq.{bytes_eq-Decides}
+use Rattle.std.proofs.Common.{◌≡◌, ◌⊎◌, inl, inr, ℕ, ◌+◌, ◌≤◌, List, [], ◌∷◌, ◌++◌, length, Bool, true, false, not, refl, sym, ap, ◌∙◌, subst, eqb, eq-eqb}
+use Rattle.std.specs.Prelude.{Option, Some, None, is_some, unwrap_or, if◌then◌else◌}
 use Rattle.ot_op.specs.declared.comp.Comp.{Comp}
-use Rattle.ot_op.specs.Apply.{applied, stands}
+use Rattle.ot_op.specs.Apply.{applied}
 use Rattle.ot_op.specs.Compose.{appended}
-use Rattle.ot_op.specs.Operation.{is_void, total_units}
-use Rattle.ot_op.proofs.Pieces.{stands_there}
-use Rattle.ot_units.specs.Text.{part_at}
+use Rattle.ot_op.specs.Operation.{total_units}
 use Rattle.ot_op.specs.declared.limits.TheConstants.{MAX_COMPONENTS, MAX_OPERATION_UNITS}
 use Rattle.journal_entries.specs.declared.message.Msg.{Msg}
 use Rattle.journal_entries.specs.declared.update.Update.{Update}
@@ -30,12 +25,10 @@ use Rattle.journal_laws.proofs.Laws.{shows}
 use Rattle.turn_rules.specs.Clients.{is_present}
 use Rattle.share_client.specs.Clients.{Numbered, again_fault, flight_fault, pending_fault, send_fault}
 use Rattle.share_client.specs.declared.edit.Edit.{Edit}
-use Rattle.share_client.specs.declared.edit.Edit.TheVariants.{Insert, Delete, Comment}
-use Rattle.share_client.specs.declared.edit.EditFault.TheVariants.{NotJoined, PastEnd, Full}
 use Rattle.share_client.specs.declared.send.SendFault.TheVariants as send
 use Rattle.share_client.specs.declared.returning.Missed.{Missed}
 use Rattle.share_client.specs.Returning.{with_all}
-use Rattle.share_client.specs.Edits.{IsEdit, edit_comp, edit_end, edit_fault, full_fault}
+use Rattle.share_client.specs.Edits.{IsEdit, edit_comp, edit_fault}
 use Rattle.turn_rules.specs.Clients.{is_joined}
 use Rattle.share_client.proofs.Edits.{edit_applies, edit_solid, first_none, joined_if, unrefused}
 use Rattle.book.specs.Roomed.{IsClientAfter, IsClientOf}

@@ -1,30 +1,25 @@
 -- What the keeper of a book holds, behind one entry more.
-use Rattle.std.proofs.Common.{◌≡◌, ◌≢◌, ◌⊎◌, inl, inr, ℕ, zero, suc, ◌+◌, ◌-◌, ◌≤◌, List, [], ◌∷◌, ◌++◌, length, map, take, Bool, true, false, sym, ap, ap₂, ◌∙◌, subst, arith, eqb, append-nil, length-append, All}
-use Rattle.std.specs.Prelude.{slice_get, Option, Some, None, IsTrue, unwrap_or, if◌then◌else◌}
-use Rattle.std.specs.List.{list_any}
-use Rattle.std.proofs.lemmas.Bool.{or_parts}
+use Rattle.std.proofs.Common.{◌≡◌, ◌≢◌, ◌⊎◌, inl, inr, ℕ, ◌+◌, ◌-◌, ◌≤◌, List, [], ◌∷◌, ◌++◌, length, map, take, Bool, true, false, sym, ap, ap₂, ◌∙◌, subst, arith, eqb, append-nil, length-append, All}
+use Rattle.std.specs.Prelude.{Option, Some, None, IsTrue, unwrap_or, if◌then◌else◌}
 use Rattle.std.proofs.lemmas.Bool.Decides.{eqb_tells}
 use Rattle.std.proofs.lemmas.List.{map-append, take-append-le, length-map}
 use Rattle.std.proofs.lemmas.List.Elements.{All-append}
-use Rattle.std.proofs.lemmas.Slice.Eq.{bytes_eq-Decides}
 use Rattle.ot_parts.specs.Lines.{lines_of}
 use Rattle.ranges_tracker.specs.Cells.{Row, plain_row}
 use Rattle.ranges_tracker.specs.Kept.{Kept}
 use Rattle.ranges_tracker.specs.Shown.{shown}
 use Rattle.keeper.specs.Documents.{Sets, document_of}
 use Rattle.journal_entries.specs.declared.act.Act.{Act}
-use Rattle.journal_entries.specs.declared.act.Act.TheVariants.{Made, Flushed, FlushFailed}
+use Rattle.journal_entries.specs.declared.act.Act.TheVariants.{Flushed, FlushFailed}
 use Rattle.journal_entries.specs.declared.act.Entry.{Entry}
-use Rattle.journal_rules.specs.Documents.{IsMade, Item, Making, applied_list, base, base_in, first_in, is_named, items_by, making, making_of, makings, name, name_in, replayed, text_at, version}
+use Rattle.journal_rules.specs.Documents.{IsMade, Item, Making, applied_list, base, base_in, first_in, items_by, making, name, name_in, replayed, text_at, version}
 use Rattle.journal_rules.specs.Keeping.{fault_of, faults, kept, kept_by}
-use Rattle.journal_rules.specs.Legal.{IsAllowed, IsLegal}
+use Rattle.journal_rules.specs.Legal.{IsLegal}
 use Rattle.journal_rules.specs.Tracking.{cells_at, tracked}
 use Rattle.journal_rules.proofs.Fencing.{made_stays, making_stays}
-use Rattle.journal_rules.proofs.Legality.{Keeps, by_last, last_or}
 use Rattle.journal_rules.proofs.Lists.{some_same}
-use Rattle.journal_rules.proofs.Pushing.{applied_list-push, faults-none, faults-push, kept-none, kept-push, makings-none, makings-push}
+use Rattle.journal_rules.proofs.Pushing.{applied_list-push, faults-none, faults-push, kept-none, kept-push}
 use Rattle.journal_rules.proofs.Waits.{all_map, all_none, all_one}
-use Rattle.project_histories.proofs.Lists.{at_within}
 use Rattle.loading_rules.proofs.Names.{names_differ}
 use Rattle.loading_rules.proofs.Weakening.{legal_but}
 use Rattle.book.specs.Stored.{AreStored, BeganBy, IsKeeping, IsStored, kept_document}

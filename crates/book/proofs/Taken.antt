@@ -1,5 +1,5 @@
 -- Who holds a document, behind its acquiring and behind an entry that says nothing of locks.
-use Rattle.std.proofs.Common.{◌≡◌, ℕ, ◌+◌, List, [], ◌∷◌, ◌++◌, Bool, true, false, not, refl, sym, ap, ap₂, ◌∙◌, append-nil, eq-eqb}
+use Rattle.std.proofs.Common.{◌≡◌, ℕ, ◌+◌, List, [], ◌∷◌, ◌++◌, false, not, refl, sym, ap, ap₂, ◌∙◌, append-nil, eq-eqb}
 use Rattle.std.specs.Prelude.{Option, Some, None, ◌==◌, if◌then◌else◌}
 use Rattle.expiring_lock.specs.declared.lock.TheConstants.{LOCK_LIFE}
 use Rattle.expiring_lock.specs.declared.refusal.Stale.TheVariants.{Other, Ended}

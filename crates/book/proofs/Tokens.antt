@@ -1,20 +1,15 @@
 -- Tokens differ, and a document's lock after one entry more.
-use Rattle.std.proofs.Common.{◌≡◌, ◌≢◌, ◌⊎◌, inl, inr, ℕ, suc, ◌+◌, ◌≤◌, ◌<◌, List, [], ◌∷◌, ◌++◌, length, Bool, true, false, not, ◌||◌, refl, sym, ap, ap₂, ◌∙◌, subst, arith, eqb, eq-eqb, ne_eqb, append-nil, length-append, All}
+use Rattle.std.proofs.Common.{◌≡◌, ◌≢◌, ℕ, ◌≤◌, List, [], ◌∷◌, ◌++◌, length, Bool, true, false, not, refl, sym, ap, ap₂, ◌∙◌, arith, eq-eqb, append-nil, length-append}
 use Rattle.std.specs.Prelude.{Option, Some, None, if◌then◌else◌}
-use Rattle.std.specs.List.{list_any}
-use Rattle.std.proofs.lemmas.Bool.{eqb-true}
-use Rattle.std.proofs.lemmas.List.Elements.{All-append}
 use Rattle.journal_entries.specs.declared.act.Act.{Act}
 use Rattle.journal_entries.specs.declared.act.Act.TheVariants.{Acquired, Released}
 use Rattle.journal_entries.specs.declared.act.Entry.{Entry}
 use Rattle.journal_rules.specs.Documents.{is_in}
-use Rattle.journal_rules.specs.Locks.{Acquiring, acquiring_of, acquirings, acquired_by, last_acquiring, token_in, next_token, released_by, released}
-use Rattle.journal_rules.specs.Legal.{IsAllowed, IsLegal}
-use Rattle.journal_rules.proofs.Pushing.{acquirings-push, acquirings-none, last_acquiring-push, last_acquiring-none, released-push, released-none}
-use Rattle.journal_rules.proofs.Legality.{Keeps, by_last}
-use Rattle.journal_rules.proofs.Lists.{some_same}
-use Rattle.journal_rules.proofs.Fencing.{token_bound, acquirings_more}
-use Rattle.journal_rules.proofs.Waits.{all_map, all_none, all_one, by_end}
+use Rattle.journal_rules.specs.Locks.{Acquiring, acquiring_of, acquirings, acquired_by, last_acquiring, next_token, released_by, released}
+use Rattle.journal_rules.specs.Legal.{IsLegal}
+use Rattle.journal_rules.proofs.Pushing.{acquirings-none, last_acquiring-push, released-push}
+use Rattle.journal_rules.proofs.Fencing.{acquirings_more}
+use Rattle.journal_rules.proofs.Waits.{by_end}
 use Rattle.loading_rules.proofs.Tokens.{next_unreleased, tokens_differ}
 use Rattle.loading_rules.proofs.Weakening.{legal_but}
 use Rattle.book.specs.Standing.{lock_in, lock_of}

@@ -1,13 +1,8 @@
-use Rattle.std.proofs.Common.{rules as rules_, ◌≡◌, ◌<◌, ◌^◌, ◌∙◌, [], ◌∷◌, ◌++◌, refl, sym, ap, subst, arith}
-use Rattle.ot_op.specs.Operation.{total_units}
+use Rattle.std.proofs.Common.{◌≡◌, ◌∙◌, [], ◌∷◌, ◌++◌, refl, sym, ap, subst}
 use Rattle.journal_entries.specs.Journals.{entries}
 use Rattle.journal_entries.specs.declared.act.Act.TheVariants.{Edited}
 use Rattle.journal_entries.specs.declared.act.Entry.{Entry}
-use Rattle.journal_rules.specs.Client as rules
-use Rattle.journal_rules.specs.declared.state.ClientState.TheVariants.{Joined}
 use Rattle.journal_rules.specs.Legal.{IsAllowed}
-use Rattle.journal_laws.proofs.World.{joined_alive}
-use Rattle.journal_sizes.proofs.Units.{pending_units}
 use Rattle.share_client.specs.Clients.{Numbered}
 use Rattle.book.specs.Roomed.{IsClientOf}
 use Rattle.book.specs.Shown.{Shown}

@@ -7,8 +7,6 @@ use Rattle.journal_entries.specs.declared.act.Entry.{Entry}
 use Rattle.journal_rules.specs.Client as rules
 use Rattle.journal_rules.specs.Mail.{mail}
 use Rattle.journal_rules.specs.Legal.{brief_of}
-use Rattle.journal_sizes.specs.Sizes.{IsAtEase}
-use Rattle.journal_sizes.proofs.Clients.{at_ease}
 use Rattle.journal_sizes.proofs.Mail.{mail_sized}
 use Rattle.mail_places.specs.Places.{told_at}
 use Rattle.book.specs.Roomed.{IsClientOf}

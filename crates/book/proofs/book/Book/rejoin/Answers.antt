@@ -23,7 +23,7 @@ use Rattle.book.specs.Passing.{missed_by}
 use Rattle.book.specs.Standing.{IsDocument, IsWindowOf}
 use Rattle.book.proofs.Booking.{quiet_by, same_book}
 use Rattle.book.proofs.Lists.{none_within}
-use Rattle.book.proofs.Rejoining.{left_doc, left_high, left_sized, left_told, may_return, missed_caught, missed_sized}
+use Rattle.book.proofs.Rejoining.{left_doc, left_high, left_told, may_return, missed_caught, missed_sized}
 use Rattle.book.proofs.Roomed.{roomed_again, roomed_joined, roomed_same}
 use Rattle.book.proofs.Serving.{returned_client}
 use Rattle.project_histories.proofs.Histories.{histories_by, histories_same}

@@ -8,7 +8,6 @@ use Rattle.journal_entries.specs.declared.update.Update.{Update}
 use Rattle.journal_entries.specs.declared.act.Act.TheVariants.{Sent}
 use Rattle.journal_rules.specs.Client as rules
 use Rattle.journal_rules.specs.Locks.{clock}
-use Rattle.journal_sizes.proofs.Counts.{number_low}
 use Rattle.book.specs.Roomed.{IsClientOf}
 use Rattle.book.specs.Shown.{Shown}
 use Rattle.book.specs.Standing.{IsKeptAs, IsQueued, Turns}
