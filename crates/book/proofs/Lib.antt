@@ -1,5 +1,4 @@
 pub mod Lists
-pub mod Reaching
 pub mod Looking
 pub mod Rooms
 pub mod Standing

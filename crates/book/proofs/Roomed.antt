@@ -15,6 +15,7 @@ use Rattle.journal_rules.specs.Documents.{sends, ticket_of, update_at, waiting}
 use Rattle.journal_rules.specs.Legal.{IsLegal}
 use Rattle.journal_rules.proofs.Waits.{committed_below, one_if, waiting-committed, waiting-committed_other, waiting-more, waits_still}
 use Rattle.mail_places.specs.Places.{IsMailIn, LeavesPlaces, Placed, placed, placed_by, placed_in, told_at, placed_of, placed_own, with_place, without_first}
+use Rattle.loading_rules.proofs.Weakening.{legal_but}
 use Rattle.mail_places.proofs.Placing.{placed-none, placed-push, placed-same}
 use Rattle.mail_places.proofs.Sources.{own_update}
 use Rattle.mail_places.proofs.Telling.{first_mail, mail_at_places, no_mail}
@@ -132,7 +133,7 @@ sourced rooms j ticket u legal named were c m at own = by (placed c j) refl (sub
   where
     by : (b : Option Placed) → placed c j ≡ b → IsThere (Some m) b j → m.doc ≡ u.doc
     by None is there = absurd there
-    by (Some box) is there = there.doc_is ∙ sym (own_update c j legal box is ticket u named (sym own ∙ there.source_is)).1
+    by (Some box) is there = there.doc_is ∙ sym (own_update c j (legal_but j legal) box is ticket u named (sym own ∙ there.source_is)).1
 
 module _ (j : List Entry) (e : Entry) (doc token ticket : ℕ) (outcome : Outcome) (u : Update) (rest : List ℕ) (legal : IsLegal j) (is : e.act ≡ Committed doc token ticket outcome)
     (first : waiting doc j ≡ ticket ∷ rest) (named : update_at j ticket ≡ Some u) (own : u.doc ≡ doc) where
@@ -180,7 +181,7 @@ module _ (j : List Entry) (e : Entry) (doc token ticket : ℕ) (outcome : Outcom
   its_own : (c : ℕ) (m : Membership) (box : Placed) → placed c j ≡ Some box → IsMember m box j → IsMember (posted_own c u (length j) m) (placed_own c u (length j) box) k
   its_own c m box at there =
       rw (ap (λ s. eqb s u.source) there.source_is)
-      (told_if (is_of c u.client && eqb box.source u.source) m box (λ same. sym (own_update c j legal box at ticket u named (sym (eqb_true box.source u.source (second (is_of c u.client) (eqb box.source u.source) same)))).1 ∙ own) there)
+      (told_if (is_of c u.client && eqb box.source u.source) m box (λ same. sym (own_update c j (legal_but j legal) box at ticket u named (sym (eqb_true box.source u.source (second (is_of c u.client) (eqb box.source u.source) same)))).1 ∙ own) there)
     where
       second : (a b : Bool) → (a && b) ≡ true → b ≡ true
       second true b is = is
@@ -200,7 +201,7 @@ module _ (j : List Entry) (e : Entry) (doc token ticket : ℕ) (outcome : Outcom
   committed : (rooms rooms' : Roomed) → IsLegal (j ++ e ∷ []) → ((c : ℕ) → member c rooms' ≡ option_map (posted_by c u (length j) outcome) (member c rooms)) → AreRoomed rooms j → AreRoomed rooms' (j ++ e ∷ [])
   committed rooms rooms' grown posts were c =
       there_by (option_map (posted_by c u (length j) outcome) (member c rooms)) (member c rooms') (option_map (placed_of c u (length j) outcome) (placed c j)) (placed c k) k (posts c)
-      (placed-committed c j e doc token ticket outcome u grown is named)
+      (placed-committed c j e doc token ticket outcome u (legal_but (j ++ e ∷ []) grown) is named)
       (all_told c (member c rooms) (placed c j) refl (were c))
 
   pub roomed_committed : (rooms rooms' : Roomed) (after : List Entry) → after ≡ j ++ e ∷ [] → IsLegal after → ((c : ℕ) → member c rooms' ≡ option_map (posted_by c u (length j) outcome) (member c rooms)) → AreRoomed rooms j → AreRoomed rooms' after
@@ -309,7 +310,7 @@ first_told rooms j c place source legal were next under = by (member c rooms) (p
     by (Some m) (Some box) is there next under =
         let f = first_of m.outbox place next in
         subst (λ n. (m : Msg) × (rest : List Msg) × (told_at j n place ≡ Some m) × (mail c j ≡ m ∷ rest)) (sym there.source_is ∙ same_item m.source source under)
-        (first_mail c j legal box is place f.0 (sym there.outbox_is ∙ f.1))
+        (first_mail c j (legal_but j legal) box is place f.0 (sym there.outbox_is ∙ f.1))
     by None b is there next under = absurd (cc)
     by (Some m) None is there next under = absurd there
 
@@ -322,8 +323,8 @@ none_told rooms j c legal were none = by (member c rooms) (placed c j) refl (wer
     empty (x ∷ xs) is = absurd (cc)
 
     by : (a : Option Membership) (b : Option Placed) → placed c j ≡ b → IsThere a b j → option_and_then first_posted a ≡ None → mail c j ≡ []
-    by (Some m) (Some box) is there none = no_mail c j legal box is (sym there.outbox_is ∙ empty m.outbox none)
-    by None None is there none = (subst (IsMailIn c j) is (mail_at_places c j legal)).1
+    by (Some m) (Some box) is there none = no_mail c j (legal_but j legal) box is (sym there.outbox_is ∙ empty m.outbox none)
+    by None None is there none = (subst (IsMailIn c j) is (mail_at_places c j (legal_but j legal))).1
     by None (Some box) is there none = absurd there
     by (Some m) None is there none = absurd there
 

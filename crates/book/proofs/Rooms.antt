@@ -7,7 +7,7 @@ use Rattle.dup_check.specs.declared.past.Past.{Past}
 use Rattle.dup_check.specs.Snapshot.{IsSmall, operations}
 use Rattle.journal_sizes.specs.Sizes.{IsSized}
 use Rattle.journal_sizes.proofs.Rooms.{inserted_least, low_said, room_within}
-use Rattle.book.specs.Deciding.{IsPassable, farthest}
+use Rattle.loading_rules.specs.Passable.{IsPassable, farthest}
 
 pub sized_small : (op : List Comp) → IsSized op → IsSmall op
 sized_small op sized = record { units = sized.light.units; comments = sized.light.comments }
@@ -17,7 +17,7 @@ all_inserted [] all = omega arith
 all_inserted (p ∷ ps) all =
     let r = all_inserted ps (All-tail (λ (x : Past). IsPassable x.op) p ps all) in
     let h = All-head (λ (x : Past). IsPassable x.op) p ps all in
-    let u = h.small.units in
+    let u = h.light.units in
     let i = inserted_least p.op in
     omega (arith, r, u, i)
 

@@ -1,15 +1,10 @@
 -- What a call for a client leaves: its entry is allowed, and the client that was handed in is the journal's again.
-use Rattle.std.proofs.Common.{◌≡◌, ◌⊎◌, inl, inr, ℕ, ◌+◌, ◌≤◌, List, [], ◌∷◌, ◌++◌, length, take, drop, Bool, true, false, not, ◌||◌, refl, sym, ap, ◌∙◌, subst, arith, eqb, eq-eqb, ne_eqb}
-use Rattle.std.specs.Prelude.{Option, Some, None, is_some, nat_lt, unwrap_or, if◌then◌else◌}
-use Rattle.std.proofs.lemmas.Bool.{ltb-false, le-leb, or_parts}
-use Rattle.std.proofs.lemmas.List.{length-take, length-drop}
-use Rattle.std.proofs.lemmas.Slice.Eq.{bytes_eq-Decides}
+use Rattle.std.proofs.Common.{◌≡◌, ◌⊎◌, inl, inr, ℕ, ◌+◌, ◌≤◌, List, [], ◌∷◌, ◌++◌, length, Bool, true, false, not, refl, sym, ap, ◌∙◌, subst, eqb, eq-eqb}
+use Rattle.std.specs.Prelude.{Option, Some, None, is_some, unwrap_or, if◌then◌else◌}
 use Rattle.ot_op.specs.declared.comp.Comp.{Comp}
-use Rattle.ot_op.specs.Apply.{applied, stands}
+use Rattle.ot_op.specs.Apply.{applied}
 use Rattle.ot_op.specs.Compose.{appended}
-use Rattle.ot_op.specs.Operation.{is_void, total_units}
-use Rattle.ot_op.proofs.Pieces.{stands_there}
-use Rattle.ot_units.specs.Text.{part_at}
+use Rattle.ot_op.specs.Operation.{total_units}
 use Rattle.ot_op.specs.declared.limits.TheConstants.{MAX_COMPONENTS, MAX_OPERATION_UNITS}
 use Rattle.journal_entries.specs.declared.message.Msg.{Msg}
 use Rattle.journal_entries.specs.declared.update.Update.{Update}
@@ -30,13 +25,12 @@ use Rattle.journal_laws.proofs.Laws.{shows}
 use Rattle.turn_rules.specs.Clients.{is_present}
 use Rattle.share_client.specs.Clients.{Numbered, again_fault, flight_fault, pending_fault, send_fault}
 use Rattle.share_client.specs.declared.edit.Edit.{Edit}
-use Rattle.share_client.specs.declared.edit.Edit.TheVariants.{Insert, Delete, Comment}
-use Rattle.share_client.specs.declared.edit.EditFault.TheVariants.{NotJoined, PastEnd, Full}
 use Rattle.share_client.specs.declared.send.SendFault.TheVariants as send
 use Rattle.share_client.specs.declared.returning.Missed.{Missed}
 use Rattle.share_client.specs.Returning.{with_all}
-use Rattle.share_client.specs.Edits.{IsEdit, edit_comp, edit_end, edit_fault, full_fault}
+use Rattle.share_client.specs.Edits.{IsEdit, edit_comp, edit_fault}
 use Rattle.turn_rules.specs.Clients.{is_joined}
+use Rattle.share_client.proofs.Edits.{edit_applies, edit_solid, first_none, joined_if, unrefused}
 use Rattle.book.specs.Roomed.{IsClientAfter, IsClientOf}
 
 -- ---- the client behind its entry
@@ -89,57 +83,6 @@ same_client j k was now same own is = record {
 }
 
 -- ---- edits
-pub joined_if : (st : ClientState) → not (is_joined st) ≡ false → st ≡ Joined
-joined_if Joined e = refl
-joined_if Away e = absurd (cc)
-joined_if Left e = absurd (cc)
-joined_if Stale e = absurd (cc)
-
-record Unrefused (s : rules.Client) (edit : Edit) : Type 0 where
-  joined : s.state ≡ Joined
-  within : edit_end edit ≤ length s.text
-  few : length (appended s.pending (edit_comp s.text edit)) ≤ MAX_COMPONENTS
-  short : total_units (appended s.pending (edit_comp s.text edit)) ≤ MAX_OPERATION_UNITS
-
-pub first_none : {F : Type 0} (b : Bool) (f : F) (rest : Option F) → (if b then Some f else rest) ≡ None → (b ≡ false) × (rest ≡ None)
-first_none true f rest e = absurd (cc)
-first_none false f rest e = (refl, e)
-
-unrefused : (s : rules.Client) (edit : Edit) → edit_fault s edit ≡ None → Unrefused s edit
-unrefused s edit none =
-    let p = appended s.pending (edit_comp s.text edit) in
-    let a = first_none (not (is_joined s.state)) NotJoined (if nat_lt (length s.text) (edit_end edit) then Some (PastEnd (length s.text)) else full_fault p) none in
-    let b = first_none (nat_lt (length s.text) (edit_end edit)) (PastEnd (length s.text)) (full_fault p) a.1 in
-    let c = first_none (nat_lt MAX_COMPONENTS (length p) || nat_lt MAX_OPERATION_UNITS (total_units p)) (Full (length p) (total_units p)) None b.1 in
-    let d = or_parts (nat_lt MAX_COMPONENTS (length p)) (nat_lt MAX_OPERATION_UNITS (total_units p)) c.0 in
-    record {
-      joined = joined_if s.state a.0;
-      within = ltb-false (length s.text) (edit_end edit) b.0;
-      few = ltb-false MAX_COMPONENTS (length p) d.0;
-      short = ltb-false MAX_OPERATION_UNITS (total_units p) d.1;
-    }
-
-part_stands : (text : List ℕ) (at len : ℕ) → at + len ≤ length text → stands text at (take len (drop at text)) ≡ true
-part_stands text at len within =
-    let part = take len (drop at text) in
-    let n : length part ≡ len = length-take len (drop at text) ∙ (let d = length-drop at text in omega (arith, d, within)) in
-    stands_there text at part part (omega (arith, n, within)) (ap (λ l. part_at text at l) (sym n)) ∙ (bytes_eq-Decides part part).1 refl
-
-edit_applies : (text : List ℕ) (edit : Edit) → edit_end edit ≤ length text → is_some (applied text (edit_comp text edit)) ≡ true
-edit_applies text (Insert at part) within = rw (le-leb at (length text) within) refl
-edit_applies text (Delete at len) within = rw (part_stands text at len within) refl
-edit_applies text (Comment at len thread) within = rw (part_stands text at len within) refl
-
-edit_solid : (text : List ℕ) (edit : Edit) → IsEdit edit → edit_end edit ≤ length text → is_void (edit_comp text edit) ≡ false
-edit_solid text (Insert at []) some within = absurd (some refl)
-edit_solid text (Insert at (x ∷ part)) some within = ne_eqb (length (x ∷ part)) 0 (λ h. absurd (omega (arith, h)))
-edit_solid text (Delete at len) some within = by (take len (drop at text)) (length-take len (drop at text) ∙ (let d = length-drop at text in omega (arith, d, within)))
-  where
-    by : (part : List ℕ) → length part ≡ len → eqb (length part) 0 ≡ false
-    by [] is = absurd (omega (arith, is, some))
-    by (x ∷ part) is = ne_eqb (length (x ∷ part)) 0 (λ h. absurd (omega (arith, h)))
-edit_solid text (Comment at len thread) some within = refl
-
 pub may_edit : (j : List Entry) (seat : ℕ) (was : Numbered) (edit : Edit) → IsClientOf j was → IsEdit edit → edit_fault was.now edit ≡ None → IsAllowed j seat (Edited was.client (edit_comp was.now.text edit))
 may_edit j seat was edit own is none =
     let comp = edit_comp was.now.text edit in

@@ -24,7 +24,8 @@ use Rattle.journal_rules.specs.Deciding.{decided_of, longest}
 use Rattle.journal_sizes.specs.Sizes.{IsSized}
 use Rattle.book.specs.declared.document.Document.{Document}
 use Rattle.book.specs.Passing.{past_or_none}
-use Rattle.book.specs.Deciding.{Becomes, IsPassable, stamp_at}
+use Rattle.loading_rules.specs.Passable.{IsPassable}
+use Rattle.book.specs.Deciding.{Becomes, stamp_at}
 use Rattle.book.specs.Standing.{IsDecidable, decision_on}
 use Rattle.book.specs.Looking.{IsLook, TakesDecision}
 use Rattle.book.proofs.Rooms.{fits_past, sized_small}

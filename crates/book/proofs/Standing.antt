@@ -22,10 +22,12 @@ use Rattle.journal_rules.specs.Deciding.{Passed, passed_of, longest}
 use Rattle.journal_rules.proofs.Replaying.{replays_on}
 use Rattle.book.specs.declared.document.Document.{Document}
 use Rattle.ranges_tracker.specs.Trackable.{IsTracked}
-use Rattle.book.specs.Deciding.{Becomes, IsPassable, IsSame, WasApplied}
+use Rattle.loading_rules.specs.Passable.{IsPassable}
+use Rattle.book.specs.Deciding.{Becomes, IsSame, WasApplied}
 use Rattle.journal_rules.specs.Keeping.{cached, kept}
 use Rattle.book.specs.Standing.{lock_of, past_of, pasts, IsDecidable, IsDocument, IsNew, IsWindowOf}
-use Rattle.book.proofs.Reaching.{near_enough}
+use Rattle.journal_sizes.specs.Sizes.{IsLight}
+use Rattle.loading_rules.proofs.Reaching.{near_enough}
 use Rattle.ranges_tracker.proofs.Versions.{plain_tracked, steps_tracked}
 use Rattle.journal_rules.proofs.Growing.{tracked-append}
 
@@ -103,7 +105,7 @@ applied_on d old new j k ticket v u op ms items waits locks keeps caches is was 
         ∙ sym (numbered-push (base d j) (pasts d j) p)
         ∙ ap₂ (λ (o : Option Making) (l : List Past). numbered (base_in o) l) (sym ms) (sym more_pasts);
     small = subst (λ (l : List Past). All (λ (y : Past). IsPassable y.op) l) (sym more_pasts) (All-push (λ (y : Past). IsPassable y.op) (pasts d j) p was.window_is.small
-        (record { small = is.small; near = near_enough old.text new.text op was.short is.small is.text_is }));
+        (let light : IsLight op = record { units = is.small.units; comments = is.small.comments } in record { light = light; near = near_enough old.text new.text op was.short light is.text_is }));
   };
   waiting_is = waits;
   lock_is = locks;

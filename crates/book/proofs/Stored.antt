@@ -1,71 +1,28 @@
 -- What the keeper of a book holds, behind one entry more.
-use Rattle.std.proofs.Common.{◌≡◌, ◌≢◌, ◌⊎◌, inl, inr, ℕ, zero, suc, ◌+◌, ◌-◌, ◌≤◌, List, [], ◌∷◌, ◌++◌, length, map, take, Bool, true, false, sym, ap, ap₂, ◌∙◌, subst, arith, eqb, append-nil, length-append, All}
-use Rattle.std.specs.Prelude.{slice_get, Option, Some, None, IsTrue, unwrap_or, if◌then◌else◌}
-use Rattle.std.specs.List.{list_any}
-use Rattle.std.proofs.lemmas.Bool.{or_parts}
+use Rattle.std.proofs.Common.{◌≡◌, ◌≢◌, ◌⊎◌, inl, inr, ℕ, ◌+◌, ◌-◌, ◌≤◌, List, [], ◌∷◌, ◌++◌, length, map, take, Bool, true, false, sym, ap, ap₂, ◌∙◌, subst, arith, eqb, append-nil, length-append, All}
+use Rattle.std.specs.Prelude.{Option, Some, None, IsTrue, unwrap_or, if◌then◌else◌}
 use Rattle.std.proofs.lemmas.Bool.Decides.{eqb_tells}
 use Rattle.std.proofs.lemmas.List.{map-append, take-append-le, length-map}
 use Rattle.std.proofs.lemmas.List.Elements.{All-append}
-use Rattle.std.proofs.lemmas.Slice.Eq.{bytes_eq-Decides}
 use Rattle.ot_parts.specs.Lines.{lines_of}
 use Rattle.ranges_tracker.specs.Cells.{Row, plain_row}
 use Rattle.ranges_tracker.specs.Kept.{Kept}
 use Rattle.ranges_tracker.specs.Shown.{shown}
 use Rattle.keeper.specs.Documents.{Sets, document_of}
 use Rattle.journal_entries.specs.declared.act.Act.{Act}
-use Rattle.journal_entries.specs.declared.act.Act.TheVariants.{Made, Flushed, FlushFailed}
+use Rattle.journal_entries.specs.declared.act.Act.TheVariants.{Flushed, FlushFailed}
 use Rattle.journal_entries.specs.declared.act.Entry.{Entry}
-use Rattle.journal_rules.specs.Documents.{IsMade, Item, Making, applied_list, base, base_in, first_in, is_named, items_by, making, making_of, makings, name, name_in, replayed, text_at, version}
+use Rattle.journal_rules.specs.Documents.{IsMade, Item, Making, applied_list, base, base_in, first_in, items_by, making, name, name_in, replayed, text_at, version}
 use Rattle.journal_rules.specs.Keeping.{fault_of, faults, kept, kept_by}
-use Rattle.journal_rules.specs.Legal.{IsAllowed, IsLegal}
+use Rattle.journal_rules.specs.Legal.{IsLegal}
 use Rattle.journal_rules.specs.Tracking.{cells_at, tracked}
 use Rattle.journal_rules.proofs.Fencing.{made_stays, making_stays}
-use Rattle.journal_rules.proofs.Legality.{Keeps, by_last, last_or}
 use Rattle.journal_rules.proofs.Lists.{some_same}
-use Rattle.journal_rules.proofs.Pushing.{applied_list-push, faults-none, faults-push, kept-none, kept-push, makings-none, makings-push}
+use Rattle.journal_rules.proofs.Pushing.{applied_list-push, faults-none, faults-push, kept-none, kept-push}
 use Rattle.journal_rules.proofs.Waits.{all_map, all_none, all_one}
-use Rattle.project_histories.proofs.Lists.{at_within}
+use Rattle.loading_rules.proofs.Names.{names_differ}
+use Rattle.loading_rules.proofs.Weakening.{legal_but}
 use Rattle.book.specs.Stored.{AreStored, BeganBy, IsKeeping, IsStored, kept_document}
-
--- ---- two documents have two names
-abbrev AreApart : List Making → Type 0
-AreApart ms = (a b : ℕ) (x y : Making) → slice_get ms a ≡ Some x → slice_get ms b ≡ Some y → x.name ≡ y.name → a ≡ b
-
-not_named : (called : List ℕ) (ms : List Making) (i : ℕ) (x : Making) → list_any (λ m. is_named called m) ms ≡ false → slice_get ms i ≡ Some x → called ≡ x.name → ⊥
-not_named called [] i x none at same = absurd (cc)
-not_named called (m ∷ ms) zero x none at same =
-    let here : is_named called m ≡ true = (bytes_eq-Decides called m.name).1 (same ∙ ap (λ (y : Making). y.name) (sym (some_same m x at))) in
-    let apart = (or_parts (is_named called m) (list_any (λ m. is_named called m) ms) none).0 in
-    absurd (cc)
-not_named called (m ∷ ms) (suc i) x none at same = not_named called ms i x (or_parts (is_named called m) (list_any (λ m. is_named called m) ms) none).1 at same
-
-apart_more : (ms : List Making) (m : Making) → list_any (λ x. is_named m.name x) ms ≡ false → AreApart ms → AreApart (ms ++ m ∷ [])
-apart_more ms m new apart a b x y at_a at_b same = by (last_or ms m a x at_a) (last_or ms m b y at_b)
-  where
-    by : (slice_get ms a ≡ Some x) ⊎ ((a ≡ length ms) × (x ≡ m)) → (slice_get ms b ≡ Some y) ⊎ ((b ≡ length ms) × (y ≡ m)) → a ≡ b
-    by (inl s) (inl t) = apart a b x y s t same
-    by (inr s) (inr t) = s.0 ∙ sym t.0
-    by (inl s) (inr t) = absurd (not_named m.name ms a x new s (sym (same ∙ ap (λ (z : Making). z.name) t.1)))
-    by (inr s) (inl t) = absurd (not_named m.name ms b y new t (sym (ap (λ (z : Making). z.name) s.1) ∙ same))
-
-names_apart : (j : List Entry) → IsLegal j → AreApart (makings j)
-names_apart = by_last (λ j. AreApart (makings j)) none more
-  where
-    none : AreApart (makings [])
-    none = subst AreApart (sym makings-none) (λ a b x y at_a at_b same. absurd (cc))
-
-    one : (h : List Entry) (seat : ℕ) (a : Act) → IsAllowed h seat a → AreApart (makings h) → AreApart (makings h ++ making_of a)
-    one h seat (Made doc called project first base) may were = apart_more (makings h) _ may.new were
-    one h seat _ may were = subst AreApart (sym (append-nil (makings h))) were
-
-    more : Keeps (λ j. AreApart (makings j))
-    more h e legal may were = subst AreApart (sym (makings-push h e)) (one h e.seat e.act may were)
-
-pub names_differ : (j : List Entry) (a b : ℕ) → IsLegal j → IsMade a j → IsMade b j → a ≢ b → name a j ≢ name b j
-names_differ j a b legal made_a made_b apart same =
-    let x = at_within (makings j) a made_a in
-    let y = at_within (makings j) b made_b in
-    apart (names_apart j legal a b x.0 y.0 x.1 y.1 (sym (ap name_in x.1) ∙ same ∙ ap name_in y.1))
 
 -- ---- what stands at a version stays
 module _ (docs : List (List ℕ × Kept)) (d v : ℕ) (j : List Entry) (e : Entry) where
@@ -176,5 +133,5 @@ module _ {tells : Bool} {docs docs' : List (List ℕ × Kept)} {count count' sta
           record {
             made = old.made;
             low = old.low;
-            there = (set told).others (name d j) (names_differ j d doc legal old.made made (λ same. t.1 (sym same))) ∙ old.there;
+            there = (set told).others (name d j) (names_differ j d doc (legal_but j legal) old.made made (λ same. t.1 (sym same))) ∙ old.there;
           }

@@ -1,5 +1,5 @@
 -- Who holds a document, behind its acquiring and behind an entry that says nothing of locks.
-use Rattle.std.proofs.Common.{◌≡◌, ℕ, ◌+◌, List, [], ◌∷◌, ◌++◌, Bool, true, false, not, refl, sym, ap, ap₂, ◌∙◌, append-nil, eq-eqb}
+use Rattle.std.proofs.Common.{◌≡◌, ℕ, ◌+◌, List, [], ◌∷◌, ◌++◌, false, not, refl, sym, ap, ap₂, ◌∙◌, append-nil, eq-eqb}
 use Rattle.std.specs.Prelude.{Option, Some, None, ◌==◌, if◌then◌else◌}
 use Rattle.expiring_lock.specs.declared.lock.TheConstants.{LOCK_LIFE}
 use Rattle.expiring_lock.specs.declared.refusal.Stale.TheVariants.{Other, Ended}
@@ -12,7 +12,8 @@ use Rattle.journal_rules.proofs.Lists.{some_same}
 use Rattle.journal_rules.proofs.Pushing.{last_acquiring-push, released-push}
 use Rattle.turn_rules.specs.Locking.{acquired, staleness}
 use Rattle.turn_rules.specs.Turns.{entry_by}
-use Rattle.book.proofs.Tokens.{next_unreleased}
+use Rattle.loading_rules.proofs.Tokens.{next_unreleased}
+use Rattle.loading_rules.proofs.Weakening.{legal_but}
 
 -- ---- it was acquired
 module _ (seat : ℕ) (line : Option ℕ) (doc : ℕ) (old new : List Entry) (is : new ≡ old ++ entry_by seat line (acquired doc old) ∷ []) where
@@ -29,7 +30,7 @@ module _ (seat : ℕ) (line : Option ℕ) (doc : ℕ) (old new : List Entry) (is
 
   module _ (legal : IsLegal old) where
     pub unreleased : is_in (next_token old) (released new) ≡ false
-    unreleased = ap (is_in (next_token old)) (ap released is ∙ released-push old (entry_by seat line (acquired doc old)) ∙ append-nil (released old)) ∙ next_unreleased old legal
+    unreleased = ap (is_in (next_token old)) (ap released is ∙ released-push old (entry_by seat line (acquired doc old)) ∙ append-nil (released old)) ∙ next_unreleased old (legal_but old legal)
 
     pub holds_taken : Holds seat doc (next_token old) new
     holds_taken = record { acquiring = taking; held = record { last = last_taken; standing = unreleased }; token_is = refl; seat_is = refl }

@@ -2,7 +2,6 @@
 use Rattle.std.specs.Prelude.{◌≡◌, ℕ, ◌≤◌, List, length, Some}
 use Rattle.ot_op.specs.declared.comp.Comp.{Comp}
 use Rattle.ot_op.specs.Apply.{applied_all}
-use Rattle.ot_transform.specs.Size.{Within}
 use Rattle.ranges_tracker.specs.Cells.{Row, steps}
 use Rattle.ranges_tracker.specs.declared.stamp.Stamp.{Stamp}
 use Rattle.ranges_tracker.specs.Shown.{shown}
@@ -18,15 +17,6 @@ use Rattle.book.specs.declared.document.Document.{Document}
 -- the stamp of an update that is applied to a version
 abbrev pub stamp_at : ℕ → Update → Stamp
 stamp_at v u = record { version = v; user = u.user; ms = u.ms; track = u.track }
-
--- the greatest place of an operation that was applied: behind the longest text, and the most units that an operation puts in
-abbrev pub farthest : ℕ
-farthest = 2162688
-
--- an operation that others can be moved past: it is small, and its places are near
-pub record IsPassable (op : List Comp) : Type 0 where
-  pub small : IsSmall op
-  pub near : Within farthest op
 
 -- nothing of a document was changed but what waits
 pub record IsSame (old new : Document) : Type 0 where

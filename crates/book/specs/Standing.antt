@@ -17,7 +17,8 @@ use Rattle.journal_rules.specs.Legal.{IsLegal}
 use Rattle.book.specs.declared.document.Document.{Document}
 use Rattle.book.specs.Passing.{passed_by}
 use Rattle.ranges_tracker.specs.Trackable.{IsTracked}
-use Rattle.book.specs.Deciding.{IsPassable, IsSame}
+use Rattle.loading_rules.specs.Passable.{IsPassable}
+use Rattle.book.specs.Deciding.{IsSame}
 
 -- an operation that was applied, as a window keeps it
 abbrev pub past_of : Item → Past

@@ -36,7 +36,8 @@ use Rattle.book.specs.Shown.{Shown, adds}
 use Rattle.turn_rules.specs.Turns.{entry_by}
 use Rattle.journal_rules.proofs.Pushing.{client-push}
 use Rattle.journal_rules.proofs.Lists.{some_same}
-use Rattle.book.proofs.Serving.{first_none, joined_if, resending_now, sending_now}
+use Rattle.book.proofs.Serving.{resending_now, sending_now}
+use Rattle.share_client.proofs.Edits.{first_none, joined_if}
 use Rattle.client_lines.specs.Refusals.{edit_why, send_why}
 
 -- ---- edits

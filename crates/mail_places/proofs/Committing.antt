@@ -1,9 +1,8 @@
 -- Whom a commit is told.
 use Rattle.std.proofs.Common.{◌≡◌, ◌≢◌, ℕ, List, [], ◌∷◌, ◌++◌, length, Bool, true, false, ◌&&◌, refl, sym, ap, ap₂, ◌∙◌, subst, ⊎_elim, eqb, eq-eqb, ne_eqb}
-use Rattle.std.specs.Prelude.{Option, Some, None, if◌then◌else◌, option_map, ◌==◌}
+use Rattle.std.specs.Prelude.{Option, Some, None, if◌then◌else◌, option_map}
 use Rattle.std.proofs.Math.Bool.{and-false}
 use Rattle.std.proofs.lemmas.Bool.{cases_eq}
-use Rattle.ot_op.specs.declared.comp.Comp.{Comp}
 use Rattle.journal_entries.specs.declared.update.Update.{Update}
 use Rattle.journal_entries.specs.declared.update.Outcome.{Outcome}
 use Rattle.journal_entries.specs.declared.update.Outcome.TheVariants.{Applied, Dup, Refused}
@@ -14,20 +13,19 @@ use Rattle.journal_entries.specs.declared.act.Entry.{Entry}
 use Rattle.journal_rules.specs.Documents.{update_at}
 use Rattle.journal_rules.specs.Mail.{told, told_of}
 use Rattle.journal_rules.specs.Client.{is_of}
-use Rattle.journal_rules.specs.Legal.{IsAllowed, IsLegal}
-use Rattle.journal_rules.proofs.Legality.{legal_front, allowed_next}
 use Rattle.journal_rules.proofs.Lists.{some_same}
 use Rattle.journal_rules.proofs.Waits.{waits_sent}
 use Rattle.journal_laws.proofs.World.{is_of_same}
-use Rattle.journal_laws.proofs.ClientsOn.{if_true, if_false}
 use Rattle.mail_places.specs.Places.{Placed, is_told, with_place, placed_if_told, placed_by, placed, placed_in, placed_own, placed_of, IsOwnUpdate}
 use Rattle.mail_places.proofs.Placing.{placed-push}
 use Rattle.mail_places.proofs.Sources.{own_update}
+use Rattle.loading_rules.specs.LegalBut.{IsLegalBut, IsAllowedBut}
+use Rattle.loading_rules.proofs.Legality.{legal_front, allowed_next}
 
 -- what commits is of the document of its update
-pub committed_doc : (j : List Entry) (e : Entry) (doc token ticket : ℕ) (outcome : Outcome) (u : Update) → IsLegal (j ++ e ∷ []) → e.act ≡ Committed doc token ticket outcome → update_at j ticket ≡ Some u → u.doc ≡ doc
+pub committed_doc : (j : List Entry) (e : Entry) (doc token ticket : ℕ) (outcome : Outcome) (u : Update) → IsLegalBut (j ++ e ∷ []) → e.act ≡ Committed doc token ticket outcome → update_at j ticket ≡ Some u → u.doc ≡ doc
 committed_doc j e doc token ticket outcome u legal is known =
-    let row : IsAllowed j e.seat (Committed doc token ticket outcome) = subst (λ a. IsAllowed j e.seat a) is (allowed_next j e [] legal) in
+    let row : IsAllowedBut j e.seat (Committed doc token ticket outcome) = subst (λ a. IsAllowedBut j e.seat a) is (allowed_next j e [] legal) in
     let s = waits_sent doc ticket j row.rest row.first in
     ap (λ (x : Update). x.doc) (some_same u s.0 (sym known ∙ s.1)) ∙ s.2
 
@@ -70,7 +68,7 @@ module _ (c : ℕ) (u : Update) (at : ℕ) (box : Placed) (own : u.source ≡ bo
   by_outcome (Refused cause) = alone (Error u.number cause)
 
 -- the law
-pub placed-committed : (c : ℕ) (j : List Entry) (e : Entry) (doc token ticket : ℕ) (outcome : Outcome) (u : Update) → IsLegal (j ++ e ∷ []) → e.act ≡ Committed doc token ticket outcome → update_at j ticket ≡ Some u → placed c (j ++ e ∷ []) ≡ option_map (placed_of c u (length j) outcome) (placed c j)
+pub placed-committed : (c : ℕ) (j : List Entry) (e : Entry) (doc token ticket : ℕ) (outcome : Outcome) (u : Update) → IsLegalBut (j ++ e ∷ []) → e.act ≡ Committed doc token ticket outcome → update_at j ticket ≡ Some u → placed c (j ++ e ∷ []) ≡ option_map (placed_of c u (length j) outcome) (placed c j)
 placed-committed c j e doc token ticket outcome u legal is known =
     placed-push c j e ∙ ap (λ a. placed_by c j a (placed c j)) is ∙ go (placed c j) refl
   where
@@ -80,46 +78,3 @@ placed-committed c j e doc token ticket outcome u legal is known =
         ap (λ (b : Placed). Some b)
         (ap₂ (λ d o. if eqb d box.doc && is_told (told_of box.source o outcome) then with_place (length j) box else box) (sym (committed_doc j e doc token ticket outcome u legal is known)) known
         ∙ by_outcome c u (length j) box (λ same. own_update c j (legal_front j (e ∷ []) legal) box at ticket u known same) outcome)
-
--- the same, by what became of the update
-pub placed-applied : (c : ℕ) (j : List Entry) (e : Entry) (doc token ticket v : ℕ) (op : List Comp) (u : Update) → IsLegal (j ++ e ∷ []) → e.act ≡ Committed doc token ticket (Applied v op) → update_at j ticket ≡ Some u → placed c (j ++ e ∷ []) ≡ option_map (placed_in doc (length j)) (placed c j)
-placed-applied c j e doc token ticket v op u legal is known =
-    placed-committed c j e doc token ticket (Applied v op) u legal is known
-    ∙ ap (λ d. option_map (placed_in d (length j)) (placed c j)) (committed_doc j e doc token ticket (Applied v op) u legal is known)
-
--- what wasn't applied is told the one that sent it
-abbrev pub IsUnapplied : Outcome → Type 0
-IsUnapplied (Applied v op) = ⊥
-IsUnapplied (Dup v) = Unit {0}
-IsUnapplied (Refused cause) = Unit {0}
-
-unapplied_own : (c : ℕ) (u : Update) (at : ℕ) (outcome : Outcome) (o : Option Placed) → IsUnapplied outcome → option_map (placed_of c u at outcome) o ≡ option_map (placed_own c u at) o
-unapplied_own c u at (Applied v op) o un = absurd un
-unapplied_own c u at (Dup v) o un = refl
-unapplied_own c u at (Refused cause) o un = refl
-
-abbrev pub placed_under : ℕ → ℕ → Placed → Placed
-placed_under source at box = if box.source == source then with_place at box else box
-
-pub placed-sender : (c : ℕ) (j : List Entry) (e : Entry) (doc token ticket : ℕ) (outcome : Outcome) (u : Update) → IsLegal (j ++ e ∷ []) → e.act ≡ Committed doc token ticket outcome → update_at j ticket ≡ Some u → IsUnapplied outcome → u.client ≡ Some c
-    → placed c (j ++ e ∷ []) ≡ option_map (placed_under u.source (length j)) (placed c j)
-placed-sender c j e doc token ticket outcome u legal is known un own =
-    placed-committed c j e doc token ticket outcome u legal is known
-    ∙ unapplied_own c u (length j) outcome (placed c j) un
-    ∙ ap (λ b. option_map (λ (box : Placed). if b && box.source == u.source then with_place (length j) box else box) (placed c j)) (is_of_same c u.client own)
-
-pub placed-others : (c : ℕ) (j : List Entry) (e : Entry) (doc token ticket : ℕ) (outcome : Outcome) (u : Update) → IsLegal (j ++ e ∷ []) → e.act ≡ Committed doc token ticket outcome → update_at j ticket ≡ Some u → IsUnapplied outcome → (u.client ≡ Some c → ⊥)
-    → placed c (j ++ e ∷ []) ≡ placed c j
-placed-others c j e doc token ticket outcome u legal is known un apart =
-    placed-committed c j e doc token ticket outcome u legal is known
-    ∙ unapplied_own c u (length j) outcome (placed c j) un
-    ∙ ap (λ b. option_map (λ (box : Placed). if b && box.source == u.source then with_place (length j) box else box) (placed c j)) (not_of u.client apart)
-    ∙ as_it_was (placed c j)
-  where
-    not_of : (o : Option ℕ) → (o ≡ Some c → ⊥) → is_of c o ≡ false
-    not_of None apart = refl
-    not_of (Some k) apart = ne_eqb k c (λ same. apart (ap (λ (n : ℕ). Some n) same))
-
-    as_it_was : (o : Option Placed) → option_map (λ (box : Placed). if false && box.source == u.source then with_place (length j) box else box) o ≡ o
-    as_it_was None = refl
-    as_it_was (Some box) = refl

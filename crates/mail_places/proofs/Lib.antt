@@ -3,3 +3,4 @@ pub mod Telling
 pub mod Rooming
 pub mod Sources
 pub mod Committing
+pub mod Receiving

@@ -1,5 +1,5 @@
 -- Which clients are in a room.
-use Rattle.std.proofs.Common.{◌≡◌, ℕ, ◌+◌, List, [], ◌∷◌, ◌++◌, length, Bool, true, false, ◌&&◌, refl, sym, ap, ◌∙◌, subst, eqb}
+use Rattle.std.proofs.Common.{◌≡◌, ℕ, ◌+◌, List, [], ◌∷◌, length, Bool, true, false, ◌&&◌, refl, sym, ap, ◌∙◌, eqb}
 use Rattle.std.specs.Prelude.{Option, Some, None, if◌then◌else◌, nat_lt, option_map}
 use Rattle.std.proofs.lemmas.Bool.{eqb-true}
 use Rattle.ot_op.specs.declared.comp.Comp.{Comp}
@@ -8,19 +8,18 @@ use Rattle.journal_entries.specs.declared.message.Msg.TheVariants.{Op, Ack, Erro
 use Rattle.journal_entries.specs.declared.act.Act.{Act}
 use Rattle.journal_entries.specs.declared.act.Act.TheVariants.{Joined as JoinedAct, Edited, Sent, Committed, Got, Left as LeftAct}
 use Rattle.journal_entries.specs.declared.act.Entry.{Entry}
-use Rattle.journal_rules.specs.declared.state.ClientState.{ClientState}
-use Rattle.journal_rules.specs.declared.state.ClientState.TheVariants.{Away, Joined, Left, Stale}
+use Rattle.journal_rules.specs.declared.state.ClientState.TheVariants.{Away, Joined, Left}
 use Rattle.journal_rules.specs.Documents.{Item, is_in}
 use Rattle.journal_rules.specs.Mail.{Outbox, outbox, mail}
-use Rattle.journal_rules.specs.Client.{Client, client, client_by, longest_text, stale, bounded, landed, Shift, shifted, shifted_to, flight_fits, places_fit, has_flight, is_alive, given_op, given, delivered, caught_up, items_between, joined_by, back_under, edited_by, sent_by, got_by, left_by, is_of}
+use Rattle.journal_rules.specs.Client.{Client, client, client_by, longest_text, stale, bounded, landed, Shift, shifted, shifted_to, flight_fits, places_fit, has_flight, is_alive, given, delivered, caught_up, items_between, joined_by, back_under, edited_by, sent_by, got_by, left_by, is_of}
 use Rattle.journal_rules.specs.Legal.{IsAllowed, IsLegal}
 use Rattle.journal_rules.proofs.Pushing.{client-push}
 use Rattle.journal_rules.proofs.Legality.{Keeps, by_last}
 use Rattle.journal_rules.proofs.Lists.{some_same}
-use Rattle.journal_laws.proofs.Mailing.{IsPosted}
 use Rattle.journal_laws.proofs.World.{joined_alive}
 use Rattle.journal_laws.proofs.Everything.{world}
-use Rattle.mail_places.specs.Places.{Placed, placed_if_told, without_first, placed_by, placed, IsMail, IsMailIn, IsRoomed}
+use Rattle.loading_rules.proofs.Weakening.{legal_but}
+use Rattle.mail_places.specs.Places.{Placed, placed_if_told, without_first, placed_by, placed, IsMailIn, IsRoomed}
 use Rattle.mail_places.proofs.Placing.{placed-push, placed-none}
 use Rattle.mail_places.proofs.Telling.{mail_at_places}
 
@@ -131,7 +130,7 @@ away_roomless c = by_last (λ j. IsAway (client c j) → placed c j ≡ None) (�
 
 -- ---- one that is joined is in the room of its document, and one that left in none
 pub joined_roomed : (c : ℕ) (j : List Entry) → IsLegal j → (client c j).state ≡ Joined → (box : Placed) × (placed c j ≡ Some box) × (box.doc ≡ (client c j).doc) × (box.source ≡ (client c j).source)
-joined_roomed c j legal joined = go (placed c j) refl (mail_at_places c j legal)
+joined_roomed c j legal joined = go (placed c j) refl (mail_at_places c j (legal_but j legal))
   where
     post : (outbox_of : Outbox) × (outbox c j ≡ Some outbox_of) × (outbox_of.doc ≡ (client c j).doc) × (outbox_of.source ≡ (client c j).source)
     post = let x = (world j legal).clients c (joined_alive (client c j).state joined) in let p = x.posted joined in (p.place, p.place_is, p.doc_is, p.source_is)
@@ -143,7 +142,7 @@ joined_roomed c j legal joined = go (placed c j) refl (mail_at_places c j legal)
         (box, is, sym m.doc_is ∙ ap (λ (b : Outbox). b.doc) same ∙ post.2, sym m.source_is ∙ ap (λ (b : Outbox). b.source) same ∙ post.3)
 
 left_roomless : (c : ℕ) (j : List Entry) → IsLegal j → (client c j).state ≡ Left → placed c j ≡ None
-left_roomless c j legal left = go (placed c j) refl (mail_at_places c j legal)
+left_roomless c j legal left = go (placed c j) refl (mail_at_places c j (legal_but j legal))
   where
     gone : outbox c j ≡ None
     gone = let x = (world j legal).clients c (ap is_alive left) in x.gone left

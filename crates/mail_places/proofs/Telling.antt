@@ -1,8 +1,7 @@
 -- The mail at a client's places.
-use Rattle.std.proofs.Common.{◌≡◌, ◌⊎◌, ℕ, zero, suc, ◌+◌, ◌-◌, ◌<◌, ◌≤◌, List, [], ◌∷◌, ◌++◌, length, map, Bool, true, false, ◌&&◌, refl, sym, ap, ap₂, ◌∙◌, subst, inl, inr, ⊎_elim, arith, eqb, take, drop, append-nil, length-append, All}
+use Rattle.std.proofs.Common.{◌≡◌, ◌⊎◌, ℕ, zero, suc, ◌+◌, ◌<◌, ◌≤◌, List, [], ◌∷◌, ◌++◌, length, map, Bool, true, false, ◌&&◌, refl, sym, ap, ap₂, ◌∙◌, subst, inl, inr, arith, eqb, drop, append-nil, length-append, All}
 use Rattle.std.specs.Prelude.{Option, Some, None, if◌then◌else◌, slice_get, option_map}
 use Rattle.std.proofs.lemmas.Bool.{eqb-true}
-use Rattle.std.proofs.lemmas.List.{length-take-le}
 use Rattle.std.proofs.lemmas.Option.{slice_get_within}
 use Rattle.journal_entries.specs.declared.update.Update.{Update}
 use Rattle.journal_entries.specs.declared.update.Outcome.{Outcome}
@@ -12,16 +11,16 @@ use Rattle.journal_entries.specs.declared.message.Msg.TheVariants.{Op, Ack, Erro
 use Rattle.journal_entries.specs.declared.act.Act.{Act}
 use Rattle.journal_entries.specs.declared.act.Act.TheVariants.{Joined as JoinedAct, Committed, Got, Left as LeftAct}
 use Rattle.journal_entries.specs.declared.act.Entry.{Entry}
-use Rattle.journal_rules.specs.Documents.{update_in, update_at}
+use Rattle.journal_rules.specs.Documents.{update_at}
 use Rattle.journal_rules.specs.Mail.{told, told_of, Outbox, posted_to, one_got, outbox_by, outbox, mail_in, mail}
-use Rattle.journal_rules.specs.Legal.{IsAllowed, IsLegal}
 use Rattle.journal_rules.proofs.Pushing.{outbox-push, outbox-none}
-use Rattle.journal_rules.proofs.Legality.{front, seam, Keeps, by_last}
-use Rattle.journal_rules.proofs.Waits.{update_stays, waits_within}
-use Rattle.journal_rules.proofs.Fencing.{slice_get-front}
-use Rattle.journal_rules.proofs.Lists.{some_same, drop_next, drop_within, drop_front}
+use Rattle.journal_rules.proofs.Legality.{front, seam}
+use Rattle.journal_rules.proofs.Waits.{update_stays}
+use Rattle.journal_rules.proofs.Lists.{drop_next, drop_within, drop_front}
 use Rattle.mail_places.specs.Places.{Placed, is_told, with_place, placed_if_told, without_first, placed_by, placed, told_by, told_in, told_at, IsMail, IsMailIn}
 use Rattle.mail_places.proofs.Placing.{placed-push, placed-none}
+use Rattle.loading_rules.specs.LegalBut.{IsLegalBut, IsAllowedBut}
+use Rattle.loading_rules.proofs.Legality.{Keeps, by_last}
 
 -- ---- what is told at a place
 -- an outcome is told by one message at most
@@ -184,13 +183,13 @@ gets j (Some box) (Some p) m rest first t = record {
   told = told_all_rest j p.source p.places m rest (t.told ∙ ap (λ (l : List Msg). map (λ (y : Msg). Some y) l) first) ∙ ap (λ (l : List Msg). map (λ (y : Msg). Some y) l) (sym (drop_next box.got box.posted m rest first));
 }
 
-pub tied : (c : ℕ) (j : List Entry) → IsLegal j → AreTied j (outbox c j) (placed c j)
+pub tied : (c : ℕ) (j : List Entry) → IsLegalBut j → AreTied j (outbox c j) (placed c j)
 tied c = by_last (λ j. AreTied j (outbox c j) (placed c j)) none more
   where
     none : AreTied [] (outbox c []) (placed c [])
     none = subst (λ (o : Option Outbox). AreTied [] o (placed c [])) (sym (outbox-none c)) (subst (λ (p : Option Placed). AreTied [] None p) (sym (placed-none c)) tt)
 
-    by_act : (h : List Entry) (e : Entry) (a : Act) → e.act ≡ a → IsAllowed h e.seat a → AreTied h (outbox c h) (placed c h) → AreTied (h ++ e ∷ []) (outbox_by c h a (outbox c h)) (placed_by c h a (placed c h))
+    by_act : (h : List Entry) (e : Entry) (a : Act) → e.act ≡ a → IsAllowedBut h e.seat a → AreTied h (outbox c h) (placed c h) → AreTied (h ++ e ∷ []) (outbox_by c h a (outbox c h)) (placed_by c h a (placed c h))
     by_act h e (JoinedAct client doc user track since source v) is may t =
         tied_if (h ++ e ∷ []) (eqb client c) (Some (record { doc = doc; source = source; posted = []; got = 0 })) (outbox c h) (Some (record { doc = doc; source = source; places = [] })) (placed c h)
         (λ same. record { doc_is = refl; source_is = refl; within = omega arith; told = refl }) (tied_on h (e ∷ []) (outbox c h) (placed c h) t)
@@ -208,7 +207,7 @@ tied c = by_last (λ j. AreTied j (outbox c j) (placed c j)) none more
         (subst (λ (p : Option Placed). AreTied (h ++ e ∷ []) (outbox_by c h e.act (outbox c h)) p) (sym (placed-push c h e)) (by_act h e e.act refl may t))
 
 -- the law
-pub mail_at_places : (c : ℕ) (j : List Entry) → IsLegal j → IsMailIn c j (placed c j)
+pub mail_at_places : (c : ℕ) (j : List Entry) → IsLegalBut j → IsMailIn c j (placed c j)
 mail_at_places c j legal = go (outbox c j) (placed c j) refl refl (tied c j legal)
   where
     go : (o : Option Outbox) (p : Option Placed) → outbox c j ≡ o → placed c j ≡ p → AreTied j o p → IsMailIn c j p
@@ -225,7 +224,7 @@ mail_at_places c j legal = go (outbox c j) (placed c j) refl refl (tied c j lega
     }
 
 -- ---- the first of the mail
-pub first_mail : (c : ℕ) (j : List Entry) → IsLegal j → (box : Placed) → placed c j ≡ Some box → (place : ℕ) (places : List ℕ) → box.places ≡ place ∷ places → (m : Msg) × (rest : List Msg) × (told_at j box.source place ≡ Some m) × (mail c j ≡ m ∷ rest)
+pub first_mail : (c : ℕ) (j : List Entry) → IsLegalBut j → (box : Placed) → placed c j ≡ Some box → (place : ℕ) (places : List ℕ) → box.places ≡ place ∷ places → (m : Msg) × (rest : List Msg) × (told_at j box.source place ≡ Some m) × (mail c j ≡ m ∷ rest)
 first_mail c j legal box is place places first = go (mail c j) refl (ap (map (told_at j box.source)) (sym first) ∙ here.mail_is)
   where
     here : IsMail c j box
@@ -235,7 +234,7 @@ first_mail c j legal box is place places first = go (mail c j) refl (ap (map (to
     go [] mail_is are = absurd (cc)
     go (m ∷ ms) mail_is are = let one : told_at j box.source place ≡ Some m = cc in (m, ms, one, mail_is)
 
-pub no_mail : (c : ℕ) (j : List Entry) → IsLegal j → (box : Placed) → placed c j ≡ Some box → box.places ≡ [] → mail c j ≡ []
+pub no_mail : (c : ℕ) (j : List Entry) → IsLegalBut j → (box : Placed) → placed c j ≡ Some box → box.places ≡ [] → mail c j ≡ []
 no_mail c j legal box is none = go (mail c j) refl (ap (map (told_at j box.source)) (sym none) ∙ here.mail_is)
   where
     here : IsMail c j box
@@ -244,19 +243,3 @@ no_mail c j legal box is none = go (mail c j) refl (ap (map (told_at j box.sourc
     go : (ms : List Msg) → mail c j ≡ ms → AreTold j box.source [] ms → mail c j ≡ []
     go [] mail_is are = mail_is
     go (m ∷ ms) mail_is are = absurd (cc)
-
--- what a legal journal tells at a place stays, as it tells nothing there stays
-pub told_at-append : (j more : List Entry) (source place : ℕ) → IsLegal j → place < length j → told_at (j ++ more) source place ≡ told_at j source place
-told_at-append j more source place legal lt = ap (told_in (j ++ more) source) (slice_get-front j more place lt) ∙ go (slice_get j place) refl
-  where
-    by_act : (e : Entry) (a : Act) → e.act ≡ a → slice_get j place ≡ Some e → told_by (j ++ more) source a ≡ told_by j source a
-    by_act e (Committed doc token ticket outcome) is at =
-        let row : IsAllowed (take place j) e.seat (Committed doc token ticket outcome) = subst (λ a. IsAllowed (take place j) e.seat a) is (legal place e at) in
-        let early = waits_within doc ticket (take place j) row.rest row.first in
-        let short : length (take place j) ≡ place = length-take-le place j (omega (arith, lt)) in
-        ap (λ o. slice_get (told_of source (update_in o) outcome) 0) (slice_get-front j more ticket (omega (arith, early, short, lt)))
-    by_act e _ is at = refl
-
-    go : (o : Option Entry) → slice_get j place ≡ o → told_in (j ++ more) source o ≡ told_in j source o
-    go None at = refl
-    go (Some e) at = by_act e e.act refl at

@@ -95,4 +95,12 @@ impl<T: Drop> Queue<T> {
     {
         self.waiting.pop_front()
     }
+
+    /// Takes all items out. The room that they took is spare then.
+    pub fn clear(&mut self)
+        ensures items { self.new.items ≡ [] }
+        ensures spare { self.new.spare ≡ self.old.spare + length self.old.items }
+    {
+        self.waiting.clear();
+    }
 }

@@ -33,5 +33,14 @@ fn the_first_in_is_the_first_out(rt: HostRuntime) -> Result<(), Fail> {
     queue.push(12);
     assert_eq!(rt; queue.pop(), Some(11));
     assert_eq!(rt; queue.pop(), Some(12));
+
+    // What is taken out at once leaves its room too.
+    queue.push(13);
+    queue.push(14);
+    queue.clear();
+    assert_eq!(rt; queue.front(), None);
+    queue.push(15);
+    queue.push(16);
+    assert_eq!(rt; queue.pop(), Some(15));
     Ok(())
 }

@@ -6,7 +6,7 @@ use Rattle.std.specs.Option.{IsNone, option_copied_mut, option_to_list}
 use Rattle.std.specs.Borrow.{MutBor}
 use Rattle.slab.specs.Slab.{Slab, Updates, get, with_value}
 use Rattle.rooms.specs.declared.member.Member.{Member}
-use Rattle.rooms.specs.Rooms.{Membership, Roomed, member, Moves, Stay, IsRoomier, AreRoomier, AreSame, AreTold, HaveRoom, IsPosted, posted, posted_in, without_first, seen, seen_at, seen_all, AreKeyed}
+use Rattle.rooms.specs.Rooms.{Membership, Roomed, member, Moves, Stay, IsRoomier, AreRoomier, AreSame, AreTold, AreRenewed, IsRenewed, Renews, HaveRoom, IsPosted, posted, posted_in, without_first, seen, seen_at, seen_all, AreKeyed}
 
 -- the key of a client
 abbrev pub key_at : List (Option ℕ) → ℕ → Option ℕ
@@ -339,6 +339,10 @@ posted_on client at m n a b was doc source items spare moves =
   where
     same_members : (x y : Membership) → x.doc ≡ y.doc → x.source ≡ y.source → x.outbox ≡ y.outbox → x.spare ≡ y.spare → x ≡ y
     same_members x y d s o p i = record { doc = d i; source = s i; outbox = o i; spare = p i }
+
+-- one who goes on under another source
+pub renewed_on : (client source : ℕ) (m n : Member) (a b : Roomed) → member client a ≡ Some (seen m) → IsRenewed source (seen m) (seen n) → Moves client (Some (seen n)) a b → Renews client source a b
+renewed_on client source m n a b was new moves = (Some (seen n), subst (λ (x : Option Membership). AreRenewed source x (Some (seen n))) (sym was) (seen n, refl, new), moves)
 
 -- whoever is in a room is a member of the slab that has room
 pub have_room : (doc n : ℕ) (keys : List (Option ℕ)) (slab : Slab Member) → ((key : ℕ) (m : Member) → get slab key ≡ Some m → m.doc ≡ doc → n ≤ m.outbox.spare) → HaveRoom doc n (seen_all keys slab)

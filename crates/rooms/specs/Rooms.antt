@@ -87,6 +87,20 @@ AreTold (Some old) new = (m : Membership) × (new ≡ Some m) × IsTold old m
 abbrev pub Pops : ℕ → Roomed → Roomed → Type 0
 Pops client old new = (there : Option Membership) × AreTold (member client old) there × Moves client there old new
 
+-- a member is in its room under another source, with an empty outbox and no less room
+pub record IsRenewed (source : ℕ) (old new : Membership) : Type 0 where
+  pub doc_is : new.doc ≡ old.doc
+  pub source_is : new.source ≡ source
+  pub outbox_is : new.outbox ≡ []
+  pub spare_is : old.spare ≤ new.spare
+
+abbrev pub AreRenewed : ℕ → Option Membership → Option Membership → Type 0
+AreRenewed source None new = new ≡ None
+AreRenewed source (Some old) new = (m : Membership) × (new ≡ Some m) × IsRenewed source old m
+
+abbrev pub Renews : ℕ → ℕ → Roomed → Roomed → Type 0
+Renews client source old new = (there : Option Membership) × AreRenewed source (member client old) there × Moves client there old new
+
 -- ---- how the rooms are kept: members in a slab, and for each client the key of its member
 
 abbrev pub seen : Member → Membership

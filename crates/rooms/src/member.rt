@@ -1,7 +1,7 @@
 //! One client in a room.
 
 ghost use Rattle.std.specs.Prelude.{◌≡◌, ◌+◌, ◌<◌, ◌≤◌, OnOk};
-ghost use Rattle.rooms.specs.Rooms.{IsRoomier, posted_in, seen};
+ghost use Rattle.rooms.specs.Rooms.{IsRenewed, IsRoomier, posted_in, seen};
 
 use pending_queue::Queue;
 use std::alloc::AllocError;
@@ -38,5 +38,13 @@ impl Member {
         if self.doc == doc {
             self.outbox.push(at);
         }
+    }
+    /// Goes on under another source, with an empty outbox.
+    pub(crate) fn renew(&mut self, source: u64)
+        ensures client { self.new.client ≡ self.old.client }
+        ensures renewed { IsRenewed source (seen self.old) (seen self.new) }
+    {
+        self.source = source;
+        self.outbox.clear();
     }
 }

@@ -4,7 +4,7 @@ ghost use Rattle.std.specs.Prelude.{◌≡◌, ◌<◌, ◌≤◌, ℕ, length, 
 ghost use Rattle.std.specs.Option.{option_and_then};
 ghost use Rattle.slab.specs.Slab.{HasRoomFor, get};
 ghost use Rattle.rooms.specs.declared.member.Member.{Member};
-ghost use Rattle.rooms.specs.Rooms.{Membership, AreKeyed, AreRoomier, AreSame, HasRoom, HaveRoom, IsPosted, Joins, Moves, Pops, Stay, first_posted, member, posted, posted_in, seen_all};
+ghost use Rattle.rooms.specs.Rooms.{Membership, AreKeyed, AreRoomier, AreSame, HasRoom, HaveRoom, IsPosted, Joins, Moves, Pops, Renews, Stay, first_posted, member, posted, posted_in, seen_all};
 
 use crate::member::Member;
 use pending_queue::Queue;
@@ -100,6 +100,19 @@ impl Rooms {
         let key = self.members.insert_reserved(member);
         self.keys[client as usize] = Some(key);
         Ok(())
+    }
+
+    /// Puts a client that is in a room under another source, with an empty outbox that has no less
+    /// room: it stays in the same room. Nothing where it is in none. Takes no memory.
+    pub fn renew(&mut self, client: u32, source: u64)
+        ensures { Renews client source self.old self.new }
+    {
+        let Some(key) = key_of(&self.keys, client) else {
+            return;
+        };
+        if let Some(member) = self.members.get_mut(key) {
+            member.renew(source);
+        }
     }
 
     /// Takes a client out of its room, with its outbox, where it is in one.

@@ -52,3 +52,29 @@ fn who_leaves_is_told_no_more(rt: HostRuntime) -> Result<(), Fail> {
     assert_eq!(rt; rooms.next(1), None);
     Ok(())
 }
+
+#[test]
+fn who_comes_back_as_a_member_stays_in_the_room(rt: HostRuntime) -> Result<(), Fail> {
+    let mut rooms = Rooms::new(rt.alloc());
+    for client in [0, 1] {
+        rooms.join(client, 3, 1_000_000)?;
+    }
+    rooms.reserve(3, 1)?;
+    rooms.post(3, 10);
+
+    // What it was still to be told of is gone.
+    rooms.renew(0, 1_000_008);
+    rooms.renew(7, 1_000_009);
+    assert_eq!(rt; rooms.source(0), Some(1_000_008));
+    assert_eq!(rt; rooms.next(0), None);
+    assert_eq!(rt; rooms.source(1), Some(1_000_000));
+    assert_eq!(rt; rooms.next(1), Some(10));
+    assert_eq!(rt; rooms.source(7), None);
+
+    rooms.reserve(3, 1)?;
+    rooms.post(3, 11);
+    for (client, first) in [(0, 11), (1, 10)] {
+        assert_eq!(rt; rooms.pop(client), Some(first));
+    }
+    Ok(())
+}

@@ -1,1 +1,3 @@
 pub mod Sizing
+pub mod Edits
+pub mod Bounds

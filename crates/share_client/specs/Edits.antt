@@ -40,13 +40,18 @@ edit_comp text (Comment at len thread) = comp.Com at (take len (drop at text)) t
 abbrev pub full_fault : List Comp → Option EditFault
 full_fault pending = if nat_lt MAX_COMPONENTS (length pending) || nat_lt MAX_OPERATION_UNITS (total_units pending) then Some (Full (length pending) (total_units pending)) else None
 
+-- what the size of what is pending refuses; want of memory may come with anything
+abbrev pub IsSizeRefusal : List Comp → EditFault → Type 0
+IsSizeRefusal pending Memory = ⊤
+IsSizeRefusal pending fault = full_fault pending ≡ Some fault
+
 abbrev pub edit_fault : Client → Edit → Option EditFault
 edit_fault c edit =
     if not (is_joined c.state) then Some NotJoined
     else if nat_lt (length c.text) (edit_end edit) then Some (PastEnd (length c.text))
     else full_fault (appended c.pending (edit_comp c.text edit))
 
--- what a refusal says; want of memory may come with anything
+-- what a refusal says; want of memory may come with anything here too
 abbrev pub IsRefusal : Client → Edit → EditFault → Type 0
 IsRefusal c edit Memory = ⊤
 IsRefusal c edit fault = edit_fault c edit ≡ Some fault

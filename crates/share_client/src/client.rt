@@ -38,15 +38,15 @@ pub struct ShareClient {
 }
 
 impl Model for ShareClient {
-    ghost use Rattle.std.specs.Prelude.{◌≡◌};
     ghost use Rattle.journal_rules.specs.Client.{user_in};
-    ghost use Rattle.share_client.specs.Clients.{Numbered, unless_away};
+    ghost use Rattle.share_client.specs.Bounds.{IsKept};
+    ghost use Rattle.share_client.specs.Clients.{Numbered};
 
     ghost Value = { Numbered };
 
     ghost view = { λ s. record { client = s.client; now = record { state = s.state; doc = s.doc; user = user_in s.user; track = s.track; source = s.source; version = s.version; text = s.text; flight = s.flight; pending = s.pending; number = s.number; sources = s.sources } } };
 
-    ghost invariant = { λ s. unless_away s.state (user_in s.user) ≡ s.user };
+    ghost invariant = { λ s. IsKept s.user (record { state = s.state; doc = s.doc; user = user_in s.user; track = s.track; source = s.source; version = s.version; text = s.text; flight = s.flight; pending = s.pending; number = s.number; sources = s.sources }) };
 }
 
 impl ShareClient {

@@ -1,12 +1,11 @@
 //! Edits of a client.
 
-ghost use Rattle.std.specs.Prelude.{◌≡◌, ◌≢◌, ◌≤◌, ◌<◌, ◌+◌, ◌-◌, ◌^◌, length, min, sum_by, take, drop, unwrap_or, false, None, Some, IfErr, IfOk, OnOk, OnErr};
+ghost use Rattle.std.specs.Prelude.{◌≡◌, ◌≤◌, ◌+◌, ◌-◌, ◌^◌, length, min, sum_by, take, drop, unwrap_or, None, Some, IfErr, IfOk, OnOk, OnErr};
 ghost use Rattle.ot_op.specs.Apply.{applied};
 ghost use Rattle.ot_op.specs.Compose.{appended};
-ghost use Rattle.ot_op.specs.Operation.{is_void, total_units, units_of};
+ghost use Rattle.ot_op.specs.Operation.{units_of};
 ghost use Rattle.journal_rules.specs.Client.{edited_by};
-ghost use Rattle.share_client.specs.declared.edit.EditFault.TheVariants.{Memory};
-ghost use Rattle.share_client.specs.Edits.{IsEdit, edit_comp, edit_end, edit_fault, edit_length, full_fault, IsRefusal};
+ghost use Rattle.share_client.specs.Edits.{IsEdit, edit_comp, edit_end, edit_fault, full_fault, IsRefusal, IsSizeRefusal};
 
 use crate::ShareClient;
 use journal_rules::ClientState;
@@ -130,19 +129,32 @@ fn units_in(comp: &Comp) -> u64
     }
 }
 
-// Whether an operation is too large to be sent, and how large it is.
+// Whether an operation is too large to be sent, and how large it is. Where it has more units than
+// can be counted, which no memory holds, memory is wanting.
 fn check_size(pending: &Op) -> Result<(), EditFault>
-    requires { sum_by units_of pending.now < 2 ^ 64 }
     ensures fits { OnOk result (full_fault pending.now ≡ None) }
-    ensures full { IfErr result (λ fault. full_fault pending.now ≡ Some fault) }
-    ensures told { IfErr result (λ fault. fault ≢ Memory) }
+    ensures full { IfErr result (IsSizeRefusal pending.now) }
 {
     let comps = pending.comps().len() as u64;
     let units = units(pending.comps());
+    if units == u64::MAX {
+        return Err(EditFault::Memory);
+    }
     if comps > MAX_COMPONENTS || units > MAX_OPERATION_UNITS {
         return Err(EditFault::Full { comps, units });
     }
     Ok(())
+}
+
+// Applies a component to a text, where it applies. Where memory is wanting, nothing changes.
+fn apply(alloc: Global, text: &mut DocText, comp: &Comp) -> Result<(), AllocError>
+    ensures ok { OnOk result (text.new ≡ unwrap_or (applied text.old comp.now) text.old) }
+    ensures err { OnErr result (text.new ≡ text.old) }
+{
+    let mut open = replace(text, DocText::new(alloc)).open();
+    let done = apply_comp(&mut open, comp);
+    *text = open.close();
+    done
 }
 
 // Applies a component in place, where it applies. Where memory is wanting, nothing changes.
@@ -171,7 +183,6 @@ impl ShareClient {
     /// A refusal changes nothing.
     pub fn edit(&mut self, edit: &Edit) -> Result<Comp, EditFault>
         requires edit { IsEdit edit.now }
-        requires small { total_units self.old.now.pending + edit_length edit.now < 2 ^ 64 }
         ensures ok { IfOk result (λ comp. (comp ≡ edit_comp self.old.now.text edit.now) × (edit_fault self.old.now edit.now ≡ None) × (self.new ≡ record self.old { now = edited_by self.old.now comp })) }
         ensures refused { IfErr result (λ fault. IsRefusal self.old.now edit.now fault) }
         ensures kept { OnErr result (self.new ≡ self.old) }
@@ -190,21 +201,10 @@ impl ShareClient {
             return Err(EditFault::Memory);
         };
         check_size(&pending)?;
-        let Ok(()) = self.apply(&comp) else {
+        let Ok(()) = apply(self.alloc, &mut self.text, &comp) else {
             return Err(EditFault::Memory);
         };
         self.pending = pending;
         Ok(comp)
-    }
-
-    // Its text with a component applied, where it applies. Where memory is wanting, nothing changes.
-    fn apply(&mut self, comp: &Comp) -> Result<(), AllocError>
-        ensures ok { OnOk result (self.new ≡ record self.old { now = record self.old.now { text = unwrap_or (applied self.old.now.text comp.now) self.old.now.text } }) }
-        ensures err { OnErr result (self.new ≡ self.old) }
-    {
-        let mut text = replace(&mut self.text, DocText::new(self.alloc)).open();
-        let done = apply_comp(&mut text, comp);
-        self.text = text.close();
-        done
     }
 }

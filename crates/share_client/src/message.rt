@@ -1,12 +1,13 @@
 //! What a message makes of a client.
 
-ghost use Rattle.std.specs.Prelude.{◌≡◌, ◌<◌, ◌+◌, ◌-◌, ◌^◌, ◌&&◌, true, IfSome, OnOk, OnErr, option_map};
+ghost use Rattle.std.specs.Prelude.{◌≡◌, ◌<◌, ◌+◌, ◌-◌, ◌^◌, ◌&&◌, true, length, nat_lt, IfSome, OnOk, OnErr, option_map};
 ghost use Rattle.ot_op.specs.Operation.{place};
 ghost use Rattle.journal_entries.specs.declared.update.Cause.{Cause};
 ghost use Rattle.journal_entries.specs.declared.message.Msg.TheVariants as msg;
 ghost use Rattle.journal_rules.specs.Documents.{is_in};
 ghost use Rattle.journal_rules.specs.Client as rules;
-ghost use Rattle.journal_sizes.specs.Sizes.{IsAtEase, IsSized, IsSizedMsg};
+ghost use Rattle.journal_sizes.specs.Sizes.{IsSized, IsSizedMsg};
+ghost use Rattle.share_client.specs.Bounds.{IsBoundedIfAlive};
 ghost use Rattle.share_client.specs.Shifts.{shift_of};
 
 use crate::ShareClient;
@@ -14,6 +15,7 @@ use crate::shift::{Shift, shifted};
 use journal_entries::{MAX_CLIENT_UNITS, Msg, Sources};
 use journal_rules::ClientState;
 use ot_op::{Comp, MAX_PLACE, Op};
+use ot_text::DocText;
 use std::alloc::AllocError;
 
 fn place_of(comp: &Comp) -> u32
@@ -39,6 +41,12 @@ fn does_flight_fit(flight: &Option<Op>) -> bool
     }
 }
 
+fn is_too_long(text: &DocText) -> bool
+    ensures { result ≡ nat_lt rules.longest_text (length text.now) }
+{
+    text.len() > MAX_CLIENT_UNITS
+}
+
 impl ShareClient {
     /// Delivers a message of the client's mail, after ShareJS 0.5's client:
     ///
@@ -52,7 +60,6 @@ impl ShareClient {
     /// Any other message changes nothing, nor does any where the client is away or stale. The only
     /// error is want of memory, and nothing has changed then.
     pub fn on_message(&mut self, msg: &Msg) -> Result<(), AllocError>
-        requires own { IsAtEase self.old.now }
         requires sized { rules.is_alive self.old.now.state ≡ true → IsSizedMsg msg.now }
         ensures ok { OnOk result (self.new ≡ record self.old { now = rules.delivered self.old.now msg.now }) }
         ensures kept { OnErr result (self.new ≡ self.old) }
@@ -79,26 +86,6 @@ impl ShareClient {
         matches!(self.state, ClientState::Joined | ClientState::Left)
     }
 
-    // Its text is too long, or it isn't.
-    fn bound(&mut self)
-        requires alive { rules.is_alive self.old.now.state ≡ true }
-        ensures { self.new ≡ record self.old { now = rules.bounded self.old.now } }
-    {
-        if self.text.len() > MAX_CLIENT_UNITS {
-            self.state = ClientState::Stale;
-        }
-    }
-
-    // Its text has the next version, and is too long or isn't.
-    fn go_on(&mut self)
-        requires alive { rules.is_alive self.old.now.state ≡ true }
-        requires low { self.old.now.version < 2 ^ 64 - 1 }
-        ensures { self.new ≡ record self.old { now = rules.bounded (record self.old.now { version = self.old.now.version + 1 }) } }
-    {
-        self.version += 1;
-        self.bound();
-    }
-
     // The flight ends.
     fn land(&mut self)
         requires alive { rules.is_alive self.old.now.state ≡ true }
@@ -107,20 +94,27 @@ impl ShareClient {
     {
         self.flight = None;
         self.sources = Sources::new(self.alloc);
-        self.go_on();
+        self.version += 1;
+        if is_too_long(&self.text) {
+            self.state = ClientState::Stale;
+        }
     }
 
     fn shift_to(&mut self, shift: Option<Shift>)
         requires alive { rules.is_alive self.old.now.state ≡ true }
         requires low { self.old.now.version < 2 ^ 64 - 1 }
+        requires bounded { IsBoundedIfAlive (rules.shifted_to self.old.now (option_map shift_of shift)) }
         ensures { self.new ≡ record self.old { now = rules.shifted_to self.old.now (option_map shift_of shift) } }
     {
         match shift {
             Some(shift) if does_flight_fit(&shift.flight) && do_places_fit(&shift.pending) => {
+                if is_too_long(&shift.text) {
+                    self.state = ClientState::Stale;
+                }
                 self.flight = shift.flight;
                 self.pending = shift.pending;
                 self.text = shift.text;
-                self.go_on();
+                self.version += 1;
             }
             _ => self.state = ClientState::Stale,
         }
@@ -134,7 +128,6 @@ impl ShareClient {
 
     pub(crate) fn on_op(&mut self, v: u64, op: &Op, source: u64) -> Result<(), AllocError>
         requires alive { rules.is_alive self.old.now.state ≡ true }
-        requires own { IsAtEase self.old.now }
         requires op { IsSized op.now }
         requires low { v < 2 ^ 64 - 1 }
         ensures ok { OnOk result (self.new ≡ record self.old { now = rules.given_op self.old.now v op.now source }) }

@@ -3,7 +3,7 @@
 ghost use Rattle.std.specs.Prelude.{◌≡◌, ◌+◌, ◌-◌, ◌<◌, ◌^◌, true, length, All, IfOk, OnOk, OnErr};
 ghost use Rattle.journal_rules.specs.declared.state.ClientState.TheVariants as state;
 ghost use Rattle.journal_rules.specs.Client as rules;
-ghost use Rattle.journal_sizes.specs.Sizes.{AreSized, IsAtEase, IsSized};
+ghost use Rattle.journal_sizes.specs.Sizes.{IsAtEase, IsSized};
 ghost use Rattle.share_client.specs.Returning.{with_all, with_missed};
 
 use crate::ShareClient;
@@ -29,7 +29,6 @@ impl ShareClient {
     /// memory, and nothing has changed then.
     pub fn caught_up(&mut self, past: &[Missed], source: u64) -> Result<(), AllocError>
         requires left { self.old.now.state ≡ state.Left }
-        requires own { AreSized self.old.now.flight self.old.now.pending }
         requires sized { All (λ m. IsSized m.op) past.now }
         requires low { self.old.now.version + length past.now < 2 ^ 64 }
         ensures ok { OnOk result (self.new ≡ record self.old { now = rules.back_under source (with_all self.old.now past.now) }) }
@@ -45,7 +44,8 @@ impl ShareClient {
     }
 
     fn copy(&self) -> Result<ShareClient, AllocError>
-        ensures { IfOk result (λ made. made ≡ self.now) }
+        ensures same { IfOk result (λ made. made ≡ self.now) }
+        ensures own { IfOk result (λ made. IsAtEase made.now) }
     {
         Ok(ShareClient {
             client: self.client,
@@ -66,7 +66,6 @@ impl ShareClient {
 
     // An operation of its document at its version.
     fn on_missed(&mut self, missed: &Missed) -> Result<(), AllocError>
-        requires own { IsAtEase self.old.now }
         requires op { IsSized missed.now.op }
         requires low { rules.is_alive self.old.now.state ≡ true → self.old.now.version < 2 ^ 64 - 1 }
         ensures { OnOk result (self.new ≡ record self.old { now = with_missed self.old.now missed.now }) }

@@ -2,6 +2,7 @@
 
 ghost use Rattle.std.specs.Prelude.{◌≡◌, ◌+◌, ◌-◌, ◌<◌, ◌^◌, [], ◌∷◌, None, Some, IfErr, IfOk, OnOk, OnErr};
 ghost use Rattle.journal_rules.specs.Client.{added as added_lem, sent_by};
+ghost use Rattle.journal_sizes.specs.Sizes.{IsSized};
 ghost use Rattle.share_client.specs.Clients.{again_fault, send_fault, told_send};
 
 use crate::ShareClient;
@@ -43,8 +44,8 @@ impl ShareClient {
     /// where something is in flight, and with [`SendFault::Nothing`] where nothing is pending. A
     /// refusal changes nothing.
     pub fn take_send(&mut self) -> Result<Outgoing, SendFault>
-        requires { self.old.now.number < 2 ^ 64 - 1 }
         ensures ok { IfOk result (λ out. (send_fault self.old.now ≡ None) × (out ≡ record { number = self.old.now.number + 1; v = self.old.now.version; op = self.old.now.pending; dup = [] }) × (self.new ≡ record self.old { now = sent_by self.old.now None })) }
+        ensures sized { IfOk result (λ out. IsSized out.op) }
         ensures refused { IfErr result (λ fault. told_send fault ≡ send_fault self.old.now) }
         ensures kept { OnErr result (self.new ≡ self.old) }
     {
@@ -63,9 +64,13 @@ impl ShareClient {
         let Ok(sources) = only(self.alloc, self.source) else {
             return Err(SendFault::Memory);
         };
+        // More numbers than there are were never sent.
+        let Some(number) = self.number.checked_add(1) else {
+            return Err(SendFault::Memory);
+        };
         let pending = replace(&mut self.pending, Op::empty(self.alloc));
         self.flight = Some(pending);
-        self.number += 1;
+        self.number = number;
         self.sources = sources;
         Ok(Outgoing {
             number: self.number,
@@ -81,6 +86,7 @@ impl ShareClient {
     /// changes nothing.
     pub fn send_again(&mut self) -> Result<Outgoing, SendFault>
         ensures ok { IfOk result (λ out. (again_fault self.old.now ≡ None) × (Some out.op ≡ self.old.now.flight) × (out.number ≡ self.old.now.number) × (out.v ≡ self.old.now.version) × (out.dup ≡ self.old.now.sources) × (self.new ≡ record self.old { now = sent_by self.old.now self.old.now.flight })) }
+        ensures sized { IfOk result (λ out. IsSized out.op) }
         ensures refused { IfErr result (λ fault. told_send fault ≡ again_fault self.old.now) }
         ensures kept { OnErr result (self.new ≡ self.old) }
     {

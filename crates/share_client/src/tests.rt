@@ -1,9 +1,8 @@
 //! Clients that edit, send and are told, at values that were worked out by hand.
 
-ghost use Rattle.std.specs.Prelude.{◌≡◌, ◌+◌, ◌<◌, ◌^◌, IsTrue};
-ghost use Rattle.ot_op.specs.Operation.{total_units};
-ghost use Rattle.journal_sizes.specs.Sizes.{IsAtEase, IsSized, IsSizedMsg};
-ghost use Rattle.share_client.specs.Edits.{IsEdit, edit_length};
+ghost use Rattle.std.specs.Prelude.{IsTrue};
+ghost use Rattle.journal_sizes.specs.Sizes.{IsSized, IsSizedMsg};
+ghost use Rattle.share_client.specs.Edits.{IsEdit};
 
 use crate::edit::units;
 use crate::message::do_places_fit;
@@ -303,28 +302,19 @@ fn joined(alloc: Global) -> Result<ShareClient, Fail> {
     Ok(client)
 }
 
-/// Above what is pending in these tests, and what one edit puts in.
-const FEW: usize = 100_000;
-
-fn is_small(client: &ShareClient, edit: &Edit) -> bool
-    ensures edit { IsTrue result → IsEdit edit.now }
-    ensures small { IsTrue result → total_units client.now.now.pending + edit_length edit.now < 2 ^ 64 }
+fn is_edit(edit: &Edit) -> bool
+    ensures { IsTrue result → IsEdit edit.now }
 {
-    let few = units(client.pending().comps()) < FEW as u64;
     match edit {
-        Edit::Insert { at: _, text } => few && !text.is_empty() && text.len() < FEW,
-        Edit::Delete { at: _, len } => few && 0 < *len,
-        Edit::Comment {
-            at: _,
-            len,
-            thread: _,
-        } => few && (*len as usize) < FEW,
+        Edit::Insert { at: _, text } => !text.is_empty(),
+        Edit::Delete { at: _, len } => 0 < *len,
+        Edit::Comment { .. } => true,
     }
 }
 
 fn edit(client: &mut ShareClient, edit: &Edit) -> Result<Result<Comp, EditFault>, Fail> {
-    if !is_small(client, edit) {
-        return Err(Fail::new("a small edit"));
+    if !is_edit(edit) {
+        return Err(Fail::new("an edit of something"));
     }
     Ok(client.edit(edit))
 }
@@ -352,28 +342,12 @@ fn is_sized_msg(msg: &Msg) -> bool
     }
 }
 
-fn is_at_ease(client: &ShareClient) -> bool
-    ensures { IsTrue result → IsAtEase client.now.now }
-{
-    match client.flight() {
-        Some(op) => is_sized(op) && is_sized(client.pending()),
-        None => is_sized(client.pending()),
-    }
-}
-
 fn deliver(client: &mut ShareClient, msg: &Msg) -> Result<(), Fail> {
-    if !is_at_ease(client) || !is_sized_msg(msg) {
-        return Err(Fail::new("a small client"));
+    if !is_sized_msg(msg) {
+        return Err(Fail::new("a small message"));
     }
     client.on_message(msg)?;
     Ok(())
-}
-
-fn send(client: &mut ShareClient) -> Result<Result<Outgoing, SendFault>, Fail> {
-    if client.last_number() > 1_000 {
-        return Err(Fail::new("few sendings"));
-    }
-    Ok(client.take_send())
 }
 
 fn take(alloc: Global, client: &mut ShareClient, step: &Step) -> Result<(), Fail> {
@@ -390,7 +364,7 @@ fn take(alloc: Global, client: &mut ShareClient, step: &Step) -> Result<(), Fail
             let _made = edit(client, &Edit::Comment { at, len, thread: 7 })?;
         }
         Send => {
-            let _sent = send(client)?;
+            let _sent = client.take_send();
         }
         Leave => client.left(),
         Other(v, rows, source) => {
@@ -549,7 +523,7 @@ fn is_sent(alloc: Global, sent: &Outgoing, dup: &[u64]) -> Result<bool, Fail> {
 fn what_is_in_flight_is_sent_again(rt: HostRuntime) -> Result<(), Fail> {
     let alloc = rt.alloc();
     let mut client = taken(alloc, &[Put(1, "X")])?;
-    match send(&mut client)? {
+    match client.take_send() {
         Ok(sent) => assert!(rt; is_sent(alloc, &sent, &[])?),
         Err(fault) => panic!(rt; "{fault:?}"),
     }
@@ -584,7 +558,7 @@ static UNSENT: [Unsent; 5] = [
 fn nothing_is_sent_for_the_first_cause(rt: HostRuntime) -> Result<(), Fail> {
     for (steps, pending, flight) in &UNSENT {
         let mut client = taken(rt.alloc(), *steps)?;
-        assert!(rt; send(&mut client)?.err() == *pending);
+        assert!(rt; client.take_send().err() == *pending);
         assert!(rt; client.send_again().err() == *flight);
     }
     Ok(())

@@ -1,14 +1,9 @@
-use Rattle.std.proofs.Common.{rules as rules_, ◌≡◌, ◌<◌, ◌^◌, ◌∙◌, [], ◌∷◌, ◌++◌, refl, sym, ap, subst, arith}
-use Rattle.ot_op.specs.Operation.{total_units}
+use Rattle.std.proofs.Common.{◌≡◌, ◌∙◌, [], ◌∷◌, ◌++◌, refl, sym, ap, subst}
 use Rattle.std.specs.Prelude.{Some}
 use Rattle.journal_entries.specs.Journals.{entries}
 use Rattle.journal_entries.specs.declared.act.Act.TheVariants.{Edited}
 use Rattle.journal_entries.specs.declared.act.Entry.{Entry}
-use Rattle.journal_rules.specs.Client as rules
-use Rattle.journal_rules.specs.declared.state.ClientState.TheVariants.{Joined}
 use Rattle.journal_rules.specs.Legal.{IsAllowed}
-use Rattle.journal_laws.proofs.World.{joined_alive}
-use Rattle.journal_sizes.proofs.Units.{pending_units}
 use Rattle.share_client.specs.Clients.{Numbered}
 use Rattle.book.specs.Roomed.{IsClientOf}
 use Rattle.book.specs.Shown.{Shown}
@@ -20,16 +15,6 @@ use Rattle.book.proofs.Stored.{keeps_by}
 use Rattle.turn_rules.proofs.Owning.{own_client, owned_by}
 use Rattle.turn_rules.specs.Owning.{MayWriteFor}
 use Rattle.book.proofs.book.Book.edit.Goals as goal
-
-pub edit-requires-clause-small : goal.edit-requires-clause-small
-edit-requires-clause-small g c =
-    let j = entries c.self.inside.journal in
-    let own : IsClientOf j c.args.client.now = subst (λ (v : Shown). IsClientOf v.journal c.args.client.now) (sym c.self.view_is) c.requires.client in
-    let joined : c.args.client.now.now.state ≡ Joined = search (rules_, c.state.ensures, c.ne.ensures, c.if-ne.false) in
-    let low : total_units c.args.client.now.now.pending < 2 ^ 32 = subst (λ (s : rules.Client). total_units s.pending < 2 ^ 32) (sym own) (pending_units c.args.client.now.client j c.self.invariant.book.stands.legal (ap (λ (s : rules.Client). rules.is_alive s.state) (sym own) ∙ joined_alive c.args.client.now.now.state joined)) in
-    let n = c.units_of_edit-units.ensures.value in
-    let small = c.units_of_edit-units.ensures.small in
-    omega (arith, low, n, small)
 
 pub invariant_of-self-2 : goal.invariant_of-self-2
 invariant_of-self-2 g c =

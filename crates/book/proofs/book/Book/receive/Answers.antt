@@ -7,8 +7,6 @@ use Rattle.journal_entries.specs.declared.act.Entry.{Entry}
 use Rattle.journal_rules.specs.Client as rules
 use Rattle.journal_rules.specs.Mail.{mail}
 use Rattle.journal_rules.specs.Legal.{brief_of}
-use Rattle.journal_sizes.specs.Sizes.{IsAtEase}
-use Rattle.journal_sizes.proofs.Clients.{at_ease}
 use Rattle.journal_sizes.proofs.Mail.{mail_sized}
 use Rattle.mail_places.specs.Places.{told_at}
 use Rattle.book.specs.Roomed.{IsClientOf}
@@ -38,22 +36,19 @@ unreachable-requires-in_default-2 g c =
     let f : None ≡ Some told.0 = sym c.in_default-2.is ∙ c.in_ok-message.ensures ∙ ap (λ l. told_at l c.in-Some-source.source c.in-Some.place) c.as_slice-entries.ensures ∙ told.2 in
     absurd (cc)
 
-pub on_message-requires-clause-own : goal.on_message-requires-clause-own
-on_message-requires-clause-own g c =
-    let j = entries c.self.inside.journal in
-    let own : IsClientOf j c.args.client.now = subst (λ (v : Shown). IsClientOf v.journal c.args.client.now) (sym c.self.view_is) c.requires.client in
-    subst IsAtEase (sym own) (at_ease c.args.client.now.client j c.self.invariant.book.stands.legal)
-
-pub on_message-requires-clause-sized : goal.on_message-requires-clause-sized
-on_message-requires-clause-sized g c = λ alive.
-    let j = entries c.self.inside.journal in
-    let own : IsClientOf j c.args.client.now = subst (λ (v : Shown). IsClientOf v.journal c.args.client.now) (sym c.self.view_is) c.requires.client in
-    let told = first_told c.self.inside.rooms j c.client-number.result c.in-Some.place c.in-Some-source.source c.self.invariant.book.stands.legal c.self.invariant.roomed (sym c.next.ensures ∙ c.in-Some.is) (sym c.source.ensures ∙ c.in-Some-source.is) in
-    let message : told.0 ≡ c.in-Some-2.message = same_item told.0 c.in-Some-2.message (sym told.2 ∙ sym (ap (λ l. told_at l c.in-Some-source.source c.in-Some.place) c.as_slice-entries.ensures) ∙ sym c.in_ok-message.ensures ∙ c.in-Some-2.is) in
-    let first : mail c.client-number.result j ≡ c.in-Some-2.message ∷ told.1 = told.3 ∙ ap (λ m. m ∷ told.1) message in
-    let few = c.len-length.ensures.short in
-    let len = c.len-length.ensures.value in
-    mail_sized c.args.client.now.client j c.in-Some-2.message told.1 c.self.invariant.book.stands.legal (omega (arith, few, len)) (ap (λ (s : rules.Client). rules.is_alive s.state) (sym own) ∙ alive) (ap (λ n. mail n j) (sym c.client-number.ensures) ∙ first)
+pub on_message-requires : goal.on_message-requires
+on_message-requires g c = record {
+  sized = λ alive. (
+      let j = entries c.self.inside.journal in
+      let own : IsClientOf j c.args.client.now = subst (λ (v : Shown). IsClientOf v.journal c.args.client.now) (sym c.self.view_is) c.requires.client in
+      let told = first_told c.self.inside.rooms j c.client-number.result c.in-Some.place c.in-Some-source.source c.self.invariant.book.stands.legal c.self.invariant.roomed (sym c.next.ensures ∙ c.in-Some.is) (sym c.source.ensures ∙ c.in-Some-source.is) in
+      let message : told.0 ≡ c.in-Some-2.message = same_item told.0 c.in-Some-2.message (sym told.2 ∙ sym (ap (λ l. told_at l c.in-Some-source.source c.in-Some.place) c.as_slice-entries.ensures) ∙ sym c.in_ok-message.ensures ∙ c.in-Some-2.is) in
+      let first : mail c.client-number.result j ≡ c.in-Some-2.message ∷ told.1 = told.3 ∙ ap (λ m. m ∷ told.1) message in
+      let few = c.len-length.ensures.short in
+      let len = c.len-length.ensures.value in
+      mail_sized c.args.client.now.client j c.in-Some-2.message told.1 c.self.invariant.book.stands.legal (omega (arith, few, len)) (ap (λ (s : rules.Client). rules.is_alive s.state) (sym own) ∙ alive) (ap (λ n. mail n j) (sym c.client-number.ensures) ∙ first)
+      );
+}
 
 pub invariant_of-self-2 : goal.invariant_of-self-2
 invariant_of-self-2 g c =

@@ -23,7 +23,7 @@ use Rattle.book.specs.Passing.{missed_by}
 use Rattle.book.specs.Standing.{IsDocument, IsWindowOf}
 use Rattle.book.proofs.Booking.{quiet_by, same_book}
 use Rattle.book.proofs.Lists.{none_within}
-use Rattle.book.proofs.Rejoining.{left_doc, left_high, left_sized, left_told, may_return, missed_caught, missed_sized}
+use Rattle.book.proofs.Rejoining.{left_doc, left_high, left_told, may_return, missed_caught, missed_sized}
 use Rattle.book.proofs.Roomed.{roomed_again, roomed_joined, roomed_same}
 use Rattle.book.proofs.Serving.{returned_client}
 use Rattle.project_histories.proofs.Histories.{histories_by, histories_same}
@@ -145,14 +145,6 @@ returns-in_default-caught_up-clause-refused g c =
     let test = c.if-version-since-gt-MAX_AGE.false in
     let may : MayReturn was.now j = (left, omega (arith, v, since, test)) in
     rw (← c.self.view_is) may
-
-pub caught_up-requires-clause-own : goal.caught_up-requires-clause-own
-caught_up-requires-clause-own g c =
-    let j = entries c.self.inside.journal in
-    let was = c.args.client.now in
-    let own : IsClientOf j was = subst (λ (v : Shown). IsClientOf v.journal was) (sym c.self.view_is) c.requires.client in
-    let left : was.now.state ≡ Left = search (rules, c.state.ensures, c.ne.ensures, c.if-ne.false) in
-    left_sized j was c.self.invariant.book.stands.legal own left
 
 pub caught_up-requires-clause-sized : goal.caught_up-requires-clause-sized
 caught_up-requires-clause-sized g c =

@@ -9,7 +9,6 @@ use Rattle.journal_entries.specs.declared.act.Act.TheVariants.{Sent}
 use Rattle.journal_entries.specs.declared.act.Entry.{Entry}
 use Rattle.journal_rules.specs.Client as rules
 use Rattle.journal_rules.specs.Locks.{clock}
-use Rattle.journal_sizes.proofs.Counts.{number_low}
 use Rattle.book.specs.Roomed.{IsClientOf}
 use Rattle.book.specs.Shown.{Shown}
 use Rattle.book.specs.Standing.{IsKeptAs, IsQueued, Turns}
@@ -38,19 +37,6 @@ invariant_of-self-in_default-reserve_waiting g c =
     let s = c.self.inside in
     reserved_book s.journal c.make_room.new.journal s.documents.items c.reserve_waiting.new.documents.items s.rooms c.reserve_waiting.new.rooms s.moment s.tokens s.owed s.drivers c.in-Ok.sender.doc
     c.self.invariant c.reserve_waiting.ensures.names c.make_room.ensures.entries c.make_room.ensures.kept c.reserve_waiting.ensures.kept c.reserve_waiting.ensures.roomier
-
-pub take_send-requires : goal.take_send-requires
-take_send-requires g c =
-    let s = c.self.inside in
-    let j = entries s.journal in
-    let own : IsClientOf j c.args.client.now = subst (λ (v : Shown). IsClientOf v.journal c.args.client.now) (sym c.self.view_is) c.requires.client in
-    let none = sym c.refused_send.ensures ∙ c.in_default.is in
-    let low = number_low c.args.client.now.client j in
-    let n = ap (λ (x : rules.Client). x.number) own in
-    let len = c.len-ticket.ensures.value in
-    let short = c.len-ticket.ensures.short in
-    let same = ap length c.make_room.ensures.entries in
-    omega (arith, low, n, len, short, same)
 
 pub invariant_of-self-in_err-sent : goal.invariant_of-self-in_err-sent
 invariant_of-self-in_err-sent g c =

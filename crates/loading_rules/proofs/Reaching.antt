@@ -14,9 +14,9 @@ use Rattle.ot_transform.specs.Size.{edit_units, edit_units_in, Within}
 use Rattle.ot_transform.proofs.Rooms.{length-put}
 use Rattle.ot_op.proofs.Applying.{First, first_of_all}
 use Rattle.ranges_tracker.proofs.Stepping.{if_some, stands_of}
-use Rattle.dup_check.specs.Snapshot.{IsSmall}
+use Rattle.journal_sizes.specs.Sizes.{IsLight}
 use Rattle.journal_rules.specs.Deciding.{longest}
-use Rattle.book.specs.Deciding.{farthest}
+use Rattle.loading_rules.specs.Passable.{farthest}
 
 -- a component applies within the text, which grows by what it puts in
 record Reach (text : List ℕ) (c : Comp) (next : List ℕ) : Type 0 where
@@ -57,7 +57,7 @@ reaches_no_further (c ∷ cs) text next applies =
     All-cons (λ (x : Comp). place x ≤ length text + edit_units_in (c ∷ cs)) c cs (omega (arith, low))
     (All-weaker (λ (x : Comp). place x ≤ length f.mid + edit_units_in cs) (λ (x : Comp). place x ≤ length text + edit_units_in (c ∷ cs)) (λ x le. omega (arith, le, grows, sum)) cs (reaches_no_further cs f.mid next f.rest))
 
-pub near_enough : (text next : List ℕ) (op : List Comp) → length text ≤ longest → IsSmall op → applied_all text op ≡ Some next → Within farthest op
+pub near_enough : (text next : List ℕ) (op : List Comp) → length text ≤ longest → IsLight op → applied_all text op ≡ Some next → Within farthest op
 near_enough text next op short small applies =
     let few = small.units in
     All-weaker (λ (c : Comp). place c ≤ length text + edit_units_in op) (λ (c : Comp). place c ≤ farthest) (λ c le. omega (arith, le, short, few)) op (reaches_no_further op text next applies)

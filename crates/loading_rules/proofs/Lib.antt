@@ -1,0 +1,17 @@
+pub mod Legality
+pub mod Waits
+pub mod Fencing
+pub mod Joinings
+pub mod Unmade
+pub mod Tokens
+pub mod Acquirings
+pub mod Names
+pub mod Deciding
+pub mod Items
+pub mod Posted
+pub mod Placing
+pub mod Kept
+pub mod Reaching
+pub mod Caching
+pub mod Weakening
+pub mod Sure
