@@ -1,6 +1,7 @@
 //! Clients that type, send, send again, leave and come back.
 
-pub(crate) const CLIENTS: &str = r#"
+pub(crate) fn client_rows() -> &'static str {
+    r#"
 # a client types while the update of another waits
 $ run
 < {"do":"doc","doc":"a","project":"p","text":"abc"}
@@ -137,4 +138,5 @@ $ run
 > {"b":0,"changes":[],"comments":[],"doc":0,"e":"doc","kept":0,"name":"a","text":"ab","v":0}
 > {"b":0,"client":0,"doc":0,"e":"client","flight":null,"name":"c","pending":[],"state":"joined","text":"ab","v":0}
 > {"b":0,"e":"project","handed":0,"left":0,"project":"p"}
-"#;
+"#
+}

@@ -1,6 +1,7 @@
 //! A keeper whose first put fails.
 
-pub(crate) const FAILING: &str = r#"
+pub(crate) fn failing_keeper_rows() -> &'static str {
+    r#"
 # a flush that fails, and one after it
 $ run
 < {"do":"doc","doc":"a","project":"p","text":"abc"}
@@ -35,4 +36,5 @@ $ run
 > {"b":0,"doc":0,"e":"released","line":null,"n":9,"seat":0,"token":2}
 > {"b":0,"changes":[],"comments":[],"doc":0,"e":"doc","kept":null,"name":"a","text":"aXbc","v":1}
 > {"b":0,"e":"project","handed":0,"left":1,"project":"p"}
-"#;
+"#
+}

@@ -1,6 +1,7 @@
 //! Documents that are put into the keeper.
 
-pub(crate) const KEPT: &str = r#"
+pub(crate) fn keeper_rows() -> &'static str {
+    r#"
 # flushed at its version
 $ run
 < {"do":"doc","doc":"a","project":"p","text":"abc"}
@@ -42,4 +43,5 @@ $ run
 > {"b":0,"doc":0,"e":"released","line":null,"n":12,"seat":0,"token":3}
 > {"b":0,"changes":[],"comments":[],"doc":0,"e":"doc","kept":1,"name":"a","text":"aXbc","v":1}
 > {"b":0,"e":"project","handed":0,"left":1,"project":"p"}
-"#;
+"#
+}

@@ -7,6 +7,8 @@ mod client_rows;
 #[cfg(test)]
 mod failing_keeper_rows;
 #[cfg(test)]
+mod history_rows;
+#[cfg(test)]
 mod keeper_rows;
 #[cfg(test)]
 mod lock_rows;

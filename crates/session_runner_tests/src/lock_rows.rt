@@ -1,6 +1,7 @@
 //! Locks that are held, run out and are taken over, and lines that drain.
 
-pub(crate) const LOCKS: &str = r#"
+pub(crate) fn lock_rows() -> &'static str {
+    r#"
 # a lock that ran out is taken over
 $ run
 < {"do":"doc","doc":"a","project":"p","text":"abc"}
@@ -85,4 +86,5 @@ $ run
 > {"b":0,"doc":0,"e":"released","line":null,"n":13,"seat":0,"token":3}
 > {"b":0,"changes":[],"comments":[],"doc":0,"e":"doc","kept":2,"name":"a","text":"XY","v":2}
 > {"b":0,"e":"project","handed":0,"left":2,"project":"p"}
-"#;
+"#
+}

@@ -1,6 +1,7 @@
 //! Operations on one document that are transformed past each other, and those that are refused.
 
-pub(crate) const OPERATIONS: &str = r#"
+pub(crate) fn operation_rows() -> &'static str {
+    r#"
 # an empty input
 $ run
 > {"b":0,"driver":0,"e":"closed","line":null,"n":0,"seat":0}
@@ -325,4 +326,5 @@ $ run
 > {"b":0,"doc":0,"e":"released","line":null,"n":6,"seat":0,"token":1}
 > {"b":0,"changes":[],"comments":[],"doc":0,"e":"doc","kept":0,"name":"a","text":"ab","v":0}
 > {"b":0,"e":"project","handed":0,"left":0,"project":"p"}
-"#;
+"#
+}

@@ -1,6 +1,7 @@
 //! Tracked changes and comments.
 
-pub(crate) const RANGES: &str = r#"
+pub(crate) fn range_rows() -> &'static str {
+    r#"
 # an insert splits a tracked one
 $ run
 < {"do":"doc","doc":"a","project":"p","text":""}
@@ -142,4 +143,5 @@ $ run
 > {"b":0,"doc":0,"e":"released","line":null,"n":17,"seat":0,"token":4}
 > {"b":0,"changes":[],"comments":[{"at":0,"t":7,"text":""}],"doc":0,"e":"doc","kept":3,"name":"a","text":"","v":3}
 > {"b":0,"e":"project","handed":0,"left":3,"project":"p"}
-"#;
+"#
+}

@@ -1,6 +1,7 @@
 //! Lines and words that are none.
 
-pub(crate) const REFUSED: &str = r#"
+pub(crate) fn refused_rows() -> &'static str {
+    r#"
 # a line that is cut
 $ run
 = 3
@@ -112,4 +113,5 @@ $ --version
 < {"do":"doc","doc":"a","project":"p","text":"abc"}
 < {"do":"raw","as":"w","doc":"a","user":"u","source":1,"v":0,"op":[{"i":"X","p":1}]}
 > fault: words
-"#;
+"#
+}

@@ -1,67 +1,108 @@
 //! Rows of scripts and reports, and runs whose input and output fail.
 
-use crate::client_rows::CLIENTS;
-use crate::failing_keeper_rows::FAILING;
-use crate::keeper_rows::KEPT;
-use crate::lock_rows::LOCKS;
-use crate::operation_rows::OPERATIONS;
-use crate::range_rows::RANGES;
-use crate::refused_rows::REFUSED;
-use crate::running::{run_over, run_surely, word};
+use crate::client_rows::client_rows;
+use crate::failing_keeper_rows::failing_keeper_rows;
+use crate::history_rows::history_rows;
+use crate::keeper_rows::keeper_rows;
+use crate::lock_rows::lock_rows;
+use crate::operation_rows::operation_rows;
+use crate::range_rows::range_rows;
+use crate::refused_rows::refused_rows;
+use crate::running::{run_failing, run_over, run_surely, word};
 use keeper::{Keeper, MemoryKeeper, SureKeeper};
 use ot_units::Name;
-use script_cases::check_cases;
-use session_runner::{Ended, run_alone};
-use source_sink::{ByteSink, INPUT_LIMIT, SureSource};
+use script_cases::{Ran, check_cases};
+use source_sink::INPUT_LIMIT;
+use std::alloc::Global;
+use std::process::Abort;
 use std::test::Fail;
 
+// Each case of a table, over a keeper that doesn't fail.
+fn check_table(rt: &impl Abort, alloc: Global, table: &str) -> Result<(), Fail> {
+    check_cases(
+        rt,
+        alloc,
+        table,
+        |words, input| run_surely(alloc, words, input),
+    )
+}
+
 #[test]
-fn writes_the_report_of_each_script(rt: HostRuntime) -> Result<(), Fail> {
-    let alloc = rt.alloc();
-    for table in [OPERATIONS, RANGES, CLIENTS, LOCKS, REFUSED, KEPT] {
-        check_cases(
-            &rt,
-            alloc,
-            table,
-            |words, input| run_surely(alloc, words, input),
-        )?;
-    }
-    Ok(())
+fn transforms_operations(rt: HostRuntime) -> Result<(), Fail> {
+    check_table(&rt, rt.alloc(), operation_rows())
+}
+
+#[test]
+fn tracks_changes(rt: HostRuntime) -> Result<(), Fail> {
+    check_table(&rt, rt.alloc(), range_rows())
+}
+
+#[test]
+fn tells_clients_what_others_do(rt: HostRuntime) -> Result<(), Fail> {
+    check_table(&rt, rt.alloc(), client_rows())
+}
+
+#[test]
+fn keeps_locks(rt: HostRuntime) -> Result<(), Fail> {
+    check_table(&rt, rt.alloc(), lock_rows())
+}
+
+#[test]
+fn refuses_lines_and_words(rt: HostRuntime) -> Result<(), Fail> {
+    check_table(&rt, rt.alloc(), refused_rows())
+}
+
+#[test]
+fn puts_documents_into_the_keeper(rt: HostRuntime) -> Result<(), Fail> {
+    check_table(&rt, rt.alloc(), keeper_rows())
+}
+
+#[test]
+fn hands_history_out(rt: HostRuntime) -> Result<(), Fail> {
+    check_table(&rt, rt.alloc(), history_rows())
+}
+
+// Each case of a table, over a keeper whose first put fails.
+fn run_forgetting(alloc: Global, words: &[String], input: &[u8]) -> Result<Ran, Fail> {
+    let keeper = MemoryKeeper::new(alloc, &[], &[1])?;
+    let (ran, _keeper) = run_over(alloc, keeper, words, input, &[], &[])?;
+    Ok(ran)
 }
 
 #[test]
 fn tells_of_flushes_that_fail(rt: HostRuntime) -> Result<(), Fail> {
     let alloc = rt.alloc();
-    check_cases(&rt, alloc, FAILING, |words, input| {
-        let keeper = MemoryKeeper::new(alloc, &[], &[1])?;
-        run_over(alloc, keeper, words, input, &[], &[])
+    check_cases(&rt, alloc, failing_keeper_rows(), |words, input| {
+        run_forgetting(alloc, words, input)
     })
+}
+
+// The version and the text that a keeper has under a name.
+fn kept(alloc: Global, keeper: &mut SureKeeper, name: &str) -> Result<Option<(u64, String)>, Fail> {
+    let name = Name::read(alloc, name)?.ok_or("a name")?;
+    match keeper.get(alloc, name.as_str())? {
+        Some(kept) => {
+            let text = kept.text(alloc)?.to_text(alloc)?;
+            Ok(Some((kept.version(), text)))
+        }
+        None => Ok(None),
+    }
 }
 
 #[test]
 fn gives_the_keeper_back(rt: HostRuntime) -> Result<(), Fail> {
     let alloc = rt.alloc();
-    let input = r#"
-{"do":"doc","doc":"a","project":"p","text":"abc","v":4}
+    let input = r#"{"do":"doc","doc":"a","project":"p","text":"abc","v":4}
 {"do":"raw","as":"w","doc":"a","user":"u","source":1,"v":4,"op":[{"i":"X","p":1}]}
 "#;
-    let mut source = SureSource::new(alloc, input.trim_start().as_bytes())?;
-    let mut sink = ByteSink::new(alloc, &[])?;
     let words = word(alloc, "run")?;
-    let Ended { status, mut keeper } = run_alone(
-        alloc,
-        &words,
-        &mut source,
-        &mut sink,
-        SureKeeper::new(alloc),
-    );
-    assert_eq!(rt; status, 0);
-    let made = Name::read(alloc, "a")?.ok_or("a name")?;
-    let kept = keeper.get(alloc, made.as_str())?.ok_or("a document")?;
-    assert_eq!(rt; kept.version(), 5);
-    assert_eq!(rt; kept.text(alloc)?.to_text(alloc)?.as_str(), "aXbc");
-    let other = Name::read(alloc, "b")?.ok_or("a name")?;
-    assert!(rt; keeper.get(alloc, other.as_str())?.is_none());
+    let keeper = SureKeeper::new(alloc);
+    let (ran, mut keeper) = run_over(alloc, keeper, &words, input.as_bytes(), &[], &[])?;
+    assert_eq!(rt; ran.status, 0);
+    let (version, text) = kept(alloc, &mut keeper, "a")?.ok_or("a document")?;
+    assert_eq!(rt; version, 5);
+    assert_eq!(rt; text.as_str(), "aXbc");
+    assert!(rt; kept(alloc, &mut keeper, "b")?.is_none());
     Ok(())
 }
 
@@ -72,16 +113,16 @@ fn tells_of_failures(rt: HostRuntime) -> Result<(), Fail> {
     let doc = br#"{"do":"doc","doc":"a","project":"p","text":"abc"}"#;
 
     // The first call of the source fails, and the first of the sink.
-    let ran = run_over(alloc, SureKeeper::new(alloc), &run, doc, &[1], &[])?;
+    let ran = run_failing(alloc, &run, doc, &[1], &[])?;
     assert_eq!(rt; ran.status, 5);
     assert_eq!(rt; ran.output.as_slice(), b"fault: read\n".as_slice());
-    let ran = run_over(alloc, SureKeeper::new(alloc), &run, doc, &[], &[1])?;
+    let ran = run_failing(alloc, &run, doc, &[], &[1])?;
     assert_eq!(rt; ran.status, 6);
     assert_eq!(rt; ran.output.as_slice(), b"".as_slice());
 
     // Words out of form read nothing, and what is no UTF-8 is no JSON.
     let walk = word(alloc, "walk")?;
-    let ran = run_over(alloc, SureKeeper::new(alloc), &walk, doc, &[1], &[])?;
+    let ran = run_failing(alloc, &walk, doc, &[1], &[])?;
     assert_eq!(rt; ran.status, 2);
     assert_eq!(rt; ran.output.as_slice(), b"fault: words\n".as_slice());
     let ran = run_surely(alloc, &run, b"\xff")?;
