@@ -1,4 +1,4 @@
--- Entries by seat 0 that make no document, leave the clock, hand nothing out, let nobody join or close, and commit under no early token.
+-- Entries that make no document, leave the clock, hand nothing out, let nobody join or close, and commit under no early token.
 use Rattle.std.proofs.Common.{◌≡◌, ◌≢◌, ℕ, zero, suc, ◌+◌, ◌≤◌, ◌<◌, List, [], ◌∷◌, ◌++◌, length, Bool, true, false, true≢false, ◌||◌, refl, sym, ap, ◌∙◌, subst, inl, inr, arith, append_assoc, append-nil, length-append, ne_eqb, All}
 use Rattle.std.specs.Prelude.{Option, Some, None, ◌==◌, nat_le, nat_lt, if◌then◌else◌, map}
 use Rattle.std.proofs.lemmas.Bool.{leb-true}
@@ -117,15 +117,15 @@ pub apart_from : (from low : ℕ) (left last : List Entry) → low ≤ from → 
 apart_from from low left last le g = record {
   more = g.more;
   last_is = g.last_is;
-  all = All-weaker (IsApart from) (IsApart low) (λ e is. record { own = is.own; apart = later from low e.act le is.apart }) g.more g.all;
+  all = All-weaker (IsApart from) (IsApart low) (λ e is. record { apart = later from low e.act le is.apart }) g.more g.all;
 }
 
-module _ (line : Option ℕ) where
+module _ (seat : ℕ) (line : Option ℕ) where
   abbrev by : Act → Entry
-  by = entry_by 0 line
+  by = entry_by seat line
 
   pub one_apart : (from : ℕ) (act : Act) → is_apart from act ≡ true → (acts : List Act) → All (IsApart from) (map by acts) → All (IsApart from) (map by (act ∷ acts))
-  one_apart from act e acts all = All-cons (IsApart from) (by act) (map by acts) (record { own = refl; apart = e }) all
+  one_apart from act e acts all = All-cons (IsApart from) (by act) (map by acts) (record { apart = e }) all
 
   pub wrote : (from : ℕ) (act : Act) (left last : List Entry) → is_apart from act ≡ true → last ≡ left ++ by act ∷ [] → GoesApart from left last
   wrote from act left last e is = record { more = by act ∷ []; last_is = is; all = one_apart from act e [] (All-nil (IsApart from)) }
@@ -142,7 +142,7 @@ module _ (line : Option ℕ) where
 
   pub one_drained : (doc : ℕ) (left last : List Entry) → DrainsOne by Alone doc left last → GoesApart (next_token left) left last
   one_drained doc left last d =
-      let w = whole 0 line doc left last d in
+      let w = whole seat line doc left last d in
       let from = next_token left in
       record {
         more = map by (acquired doc left ∷ w.loading ++ Committed doc w.token w.ticket w.outcome ∷ Released doc w.token ∷ []);

@@ -91,7 +91,7 @@ quiet_sent c left last is = by (sending c (client c left) (clock left)) (own_sen
   where
     by : (o : Option Update) → ((u : Update) → o ≡ Some u → u.client ≡ Some c) → last ≡ left ++ map at_end (sent_acts o) → GoesQuietly c left last
     by None own is = quiet_none c left last (is ∙ append-nil left)
-    by (Some u) own is = quiet_one c left last (at_end (Sent u)) is (record { own = refl; quiet = refl; its = ap (is_at_most c) (own u refl) ∙ eq-eqb c c refl })
+    by (Some u) own is = quiet_one c left last (at_end (Sent u)) is (record { quiet = refl; its = ap (is_at_most c) (own u refl) ∙ eq-eqb c c refl })
 
 -- ---- catching up
 pub catches_up : (c : ℕ) (left mid last : List Entry) → is_joined (client c left).state ≡ true → Gets at_end Alone c left mid → last ≡ mid ++ map at_end (sending_acts c mid) → CatchesUp c left last

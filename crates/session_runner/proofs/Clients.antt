@@ -13,7 +13,8 @@ use Rattle.project_histories.proofs.Lists.{same_item, set_elsewhere, set_here}
 use Rattle.share_client.specs.Clients.{Numbered}
 use Rattle.book.specs.Shown.{Shown, adds}
 use Rattle.turn_rules.specs.Turns.{entry_by}
-use Rattle.session_runner.specs.Clients.{AreClientsOf, StayAll, StayOthers, is_at_most, is_clientless, is_of_none, is_of_session}
+use Rattle.turn_rules.specs.Owning.{client_owner}
+use Rattle.session_runner.specs.Clients.{AreClientsOf, AreOwnClientsOf, StayAll, StayOthers, is_at_most, is_clientless, is_of_none, is_of_session}
 
 -- ---- an entry of no client
 no_client : (c : ℕ) (o : Option ℕ) → is_clientless o ≡ true → is_of c o ≡ false
@@ -50,21 +51,36 @@ other_by c session j _ s is apart = refl
 pub others_stay : (session : ℕ) (j : List Entry) (e : Entry) → is_of_session session e.act ≡ true → StayOthers session j (j ++ e ∷ [])
 others_stay session j e is c apart = client-push c j e ∙ other_by c session j e.act (client c j) is apart
 
+-- ---- those that a seat owns
+module _ (drivers seat : ℕ) where
+  pub own_stay : (clients : List Numbered) (j k : List Entry) → StayAll j k → AreOwnClientsOf drivers seat clients j → AreOwnClientsOf drivers seat clients k
+  own_stay clients j k stay are = record { each = λ c s at. (let was = are.each c s at in (was.0, λ own. was.1 own ∙ sym (stay s.client))) }
+
+  pub own_moves : (clients : List Numbered) (session : ℕ) (was now : Numbered) (j k : List Entry) → slice_get clients session ≡ Some was → IsClientAfter k was now → StayOthers session j k → AreOwnClientsOf drivers seat clients j → AreOwnClientsOf drivers seat (slice_set clients session now) k
+  own_moves clients session was now j k at after stay are = record { each = λ c s here. by c s here (eqb_tells c session) }
+    where
+      by : (c : ℕ) (s : Numbered) → slice_get (slice_set clients session now) c ≡ Some s → ((eqb c session ≡ true) × (c ≡ session)) ⊎ ((eqb c session ≡ false) × (c ≢ session)) → (s.client ≡ c) × (client_owner drivers c ≡ seat → IsClientOf k s)
+      by c s here (inl t) =
+          let is : s ≡ now = set_here clients session now s (subst (λ n. slice_get (slice_set clients session now) n ≡ Some s) t.1 here) in
+          let own = are.each session was at in
+          (ap (λ (x : Numbered). x.client) is ∙ after.client_is ∙ own.0 ∙ sym t.1, λ mine. subst (IsClientOf k) (sym is) after.stands)
+      by c s here (inr t) =
+          let was_there = are.each c s (set_elsewhere clients session c now s t.1 here) in
+          (was_there.0, λ mine. was_there.1 mine ∙ sym (stay s.client (λ same. t.1 (sym was_there.0 ∙ same))))
+
+-- on one thread seat 0 owns all
+pub own_all : (drivers seat : ℕ) (clients : List Numbered) (j : List Entry) → drivers ≡ 0 → seat ≡ 0 → AreOwnClientsOf drivers seat clients j → AreClientsOf clients j
+own_all drivers seat clients j alone first are = record { each = λ c s at. (let was = are.each c s at in (was.0, was.1 (ap (λ d. client_owner d c) alone ∙ sym first))) }
+
+all_own : (clients : List Numbered) (j : List Entry) → AreClientsOf clients j → AreOwnClientsOf 0 0 clients j
+all_own clients j are = record { each = λ c s at. (let was = are.each c s at in (was.0, λ mine. was.1)) }
+
 -- ---- all of them
 pub all_stay : (clients : List Numbered) (j k : List Entry) → StayAll j k → AreClientsOf clients j → AreClientsOf clients k
-all_stay clients j k stay are = record { each = λ c s at. (let was = are.each c s at in (was.0, was.1 ∙ sym (stay s.client))) }
+all_stay clients j k stay are = own_all 0 0 clients k refl refl (own_stay 0 0 clients j k stay (all_own clients j are))
 
 pub one_moves : (clients : List Numbered) (session : ℕ) (was now : Numbered) (j k : List Entry) → slice_get clients session ≡ Some was → IsClientAfter k was now → StayOthers session j k → AreClientsOf clients j → AreClientsOf (slice_set clients session now) k
-one_moves clients session was now j k at after stay are = record { each = λ c s here. by c s here (eqb_tells c session) }
-  where
-    by : (c : ℕ) (s : Numbered) → slice_get (slice_set clients session now) c ≡ Some s → ((eqb c session ≡ true) × (c ≡ session)) ⊎ ((eqb c session ≡ false) × (c ≢ session)) → (s.client ≡ c) × IsClientOf k s
-    by c s here (inl t) =
-        let is : s ≡ now = set_here clients session now s (subst (λ n. slice_get (slice_set clients session now) n ≡ Some s) t.1 here) in
-        let own = are.each session was at in
-        (ap (λ (x : Numbered). x.client) is ∙ after.client_is ∙ own.0 ∙ sym t.1, subst (IsClientOf k) (sym is) after.stands)
-    by c s here (inr t) =
-        let was_there = are.each c s (set_elsewhere clients session c now s t.1 here) in
-        (was_there.0, was_there.1 ∙ sym (stay s.client (λ same. t.1 (sym was_there.0 ∙ same))))
+one_moves clients session was now j k at after stay are = own_all 0 0 (slice_set clients session now) k refl refl (own_moves 0 0 clients session was now j k at after stay (all_own clients j are))
 
 -- ---- a book with an entry more of no client
 pub stays_on : (left mid last : List Entry) → StayAll left mid → StayAll mid last → StayAll left last

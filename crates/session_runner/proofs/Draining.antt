@@ -21,7 +21,7 @@ module _ (line : Option ℕ) (doc : ℕ) where
   pub fewer : (n : ℕ) (left last : List Entry) → IsLegal last → DrainsMany (entry_by 0 line) doc n left last → n + length (waiting doc last) ≡ length (waiting doc left)
   fewer zero left last legal d = let same : length (waiting doc last) ≡ length (waiting doc left) = ap (λ (j : List Entry). length (waiting doc j)) d in omega (arith, same)
   fewer (suc n) left last legal d =
-      let one = one_drained line doc d.0 last d.2 in
+      let one = one_drained 0 line doc d.0 last d.2 in
       let taken = (takes_first 0 line doc d.0 last legal d.2).0 in
       let before = fewer n left d.0 (legal_before d.0 last one.more one.last_is legal) d.1 in
       let w = ap length taken.waited in let r = ap length taken.waits in
@@ -30,7 +30,7 @@ module _ (line : Option ℕ) (doc : ℕ) where
   pub still_free : (n : ℕ) (left last : List Entry) → IsLegal last → DrainsMany (entry_by 0 line) doc n left last → (d : ℕ) → busy d left ≡ None → busy d last ≡ None
   still_free zero left last legal many d free = ap (busy d) many ∙ free
   still_free (suc n) left last legal many d free =
-      let one = one_drained line doc many.0 last many.2 in
+      let one = one_drained 0 line doc many.0 last many.2 in
       (takes_first 0 line doc many.0 last legal many.2).1 d (still_free n left many.0 (legal_before many.0 last one.more one.last_is legal) many.1 d free)
 
 -- a document that nobody keeps doesn't hold a drain up

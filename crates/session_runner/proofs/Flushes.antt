@@ -72,13 +72,13 @@ put_apart : (from doc token : ℕ) (put : Act) → IsPut doc token put → is_ap
 put_apart from doc token put (inl x) = ap (is_apart from) x.1
 put_apart from doc token put (inr x) = ap (is_apart from) x.2
 
-pub flush_apart : (line : Option ℕ) (from doc : ℕ) (old new : List Entry) (put : Act) → IsFlush (entry_by 0 line) doc old new put → GoesApart from old new
-flush_apart line from doc old new put f = record {
-  more = map (entry_by 0 line) (acquired doc old ∷ put ∷ Released doc (next_token old) ∷ []);
+pub flush_apart : (seat : ℕ) (line : Option ℕ) (from doc : ℕ) (old new : List Entry) (put : Act) → IsFlush (entry_by seat line) doc old new put → GoesApart from old new
+flush_apart seat line from doc old new put f = record {
+  more = map (entry_by seat line) (acquired doc old ∷ put ∷ Released doc (next_token old) ∷ []);
   last_is = f.1;
-  all = All-cons (IsApart from) (entry_by 0 line (acquired doc old)) (entry_by 0 line put ∷ entry_by 0 line (Released doc (next_token old)) ∷ []) (record { own = refl; apart = refl })
-      (All-cons (IsApart from) (entry_by 0 line put) (entry_by 0 line (Released doc (next_token old)) ∷ []) (record { own = refl; apart = put_apart from doc (next_token old) put f.0 })
-      (All-cons (IsApart from) (entry_by 0 line (Released doc (next_token old))) [] (record { own = refl; apart = refl }) (All-nil (IsApart from))));
+  all = All-cons (IsApart from) (entry_by seat line (acquired doc old)) (entry_by seat line put ∷ entry_by seat line (Released doc (next_token old)) ∷ []) (record { apart = refl })
+      (All-cons (IsApart from) (entry_by seat line put) (entry_by seat line (Released doc (next_token old)) ∷ []) (record { apart = put_apart from doc (next_token old) put f.0 })
+      (All-cons (IsApart from) (entry_by seat line (Released doc (next_token old))) [] (record { apart = refl }) (All-nil (IsApart from))));
 }
 
 -- ---- why a document of a name isn't flushed
@@ -155,7 +155,7 @@ whole_freely : (doc : ℕ) (left last : List Entry) (put : Act) → needs_flush 
 whole_freely doc left last put need f = record {
   flushes = subst (λ b. FlushesIf b doc left last) (sym need) (flushes_from at_end doc left last (λ look. []) put f);
   free = flush_frees 0 None doc left last put f.0 f.1;
-  apart = flush_apart None (next_token left) doc left last put f;
+  apart = flush_apart 0 None (next_token left) doc left last put f;
 }
 
 one_freely : (doc : ℕ) (left last : List Entry) (end : FlushEnd) → IsLegal left → IsMade doc left → busy doc left ≡ None → end ≢ Memory → FlushesIfNeeded at_end doc left last end → FlushesFreely doc left last
@@ -173,8 +173,8 @@ one_freely doc left last Memory legal made free some (inr x) = absurd (some refl
 
 if_needed_apart : (doc : ℕ) (left last : List Entry) (end : FlushEnd) → end ≢ Memory → FlushesIfNeeded at_end doc left last end → GoesApart (next_token left) left last
 if_needed_apart doc left last end some (inl x) = none_apart (next_token left) left last x.1
-if_needed_apart doc left last Done some (inr x) = let p = done_puts at_end doc left last x.1 in flush_apart None (next_token left) doc left last p.0 p.1
-if_needed_apart doc left last (Failed from to) some (inr x) = let p = failed_puts at_end doc left last from to x.1 in flush_apart None (next_token left) doc left last p.0 p.1
+if_needed_apart doc left last Done some (inr x) = let p = done_puts at_end doc left last x.1 in flush_apart 0 None (next_token left) doc left last p.0 p.1
+if_needed_apart doc left last (Failed from to) some (inr x) = let p = failed_puts at_end doc left last from to x.1 in flush_apart 0 None (next_token left) doc left last p.0 p.1
 if_needed_apart doc left last (Refused w) some (inr x) = none_apart (next_token left) left last x.1.1
 if_needed_apart doc left last Memory some (inr x) = absurd (some refl)
 

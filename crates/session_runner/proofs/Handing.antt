@@ -81,7 +81,7 @@ module _ (is_own : Entry → Bool) where
   drains_hands_none : (doc most : ℕ) (left last : List Entry) (stop : Stop) → Drains at_end Alone doc most left last stop → HandsNone left last
   drains_hands_none doc zero left last stop d = ap (items_handed_by is_own) d.1
   drains_hands_none doc (suc most) left last stop (inl d) = ap (items_handed_by is_own) d.0
-  drains_hands_none doc (suc most) left last stop (inr d) = drains_hands_none doc most d.0 last stop d.2 ∙ apart_hands_none (next_token left) left d.0 (one_drained None doc left d.0 d.1)
+  drains_hands_none doc (suc most) left last stop (inr d) = drains_hands_none doc most d.0 last stop d.2 ∙ apart_hands_none (next_token left) left d.0 (one_drained 0 None doc left d.0 d.1)
 
   gets_hands_none : (n c : ℕ) (left last : List Entry) → GetsSoMany at_end Alone n c left last → HandsNone left last
   gets_hands_none zero c left last g = ap (items_handed_by is_own) g.0
@@ -164,9 +164,9 @@ module _ (session n : ℕ) (project : List ℕ) (j : List Entry) where
   pub items_of_hand : items_of j hands ≡ map shown_item (take n (history project j))
   items_of_hand = ap (map shown_item) (take_min n (history project j))
 
-  pub hand_behind : (line : Option ℕ) (last : List Entry) → last ≡ j ++ entry_by 0 line (hand_act session project n j) ∷ [] → IsBehind (Hand session project n) j last
-  hand_behind line last is =
-      let e = entry_by 0 line (hand_act session project n j) in
+  pub hand_behind : (seat : ℕ) (line : Option ℕ) (last : List Entry) → last ≡ j ++ entry_by seat line (hand_act session project n j) ∷ [] → IsBehind (Hand session project n) j last
+  hand_behind seat line last is =
+      let e = entry_by seat line (hand_act session project n j) in
       let c = ap clock is ∙ clock-push j e ∙ either_hand (λ a. ticked a (clock j) ≡ clock j) refl refl in
       record {
         makings_are = ap makings is ∙ makings_still j e (either_hand (λ a. making_of a ≡ []) refl refl);

@@ -20,20 +20,20 @@ use Rattle.session_runner.specs.Apart.{GoesApart}
 use Rattle.session_runner.proofs.Apart.{keeps_cached, stays, unused}
 
 -- ---- one entry more
-still_acquired : (d : ℕ) (e : Entry) (o : Option Acquiring) (a : Acquiring) → e.seat ≡ 0 → o ≡ Some a → a.seat ≡ 0 → (b : Acquiring) × (acquired_by d e.seat e.act o ≡ Some b) × (b.seat ≡ 0)
-still_acquired d e o a own is first = by e.act
+still_acquired : (d : ℕ) (e : Entry) (o : Option Acquiring) (a : Acquiring) → o ≡ Some a → (b : Acquiring) × (acquired_by d e.seat e.act o ≡ Some b)
+still_acquired d e o a is = by e.act
   where
-    taken : (t : Bool) (doc token until : ℕ) → (b : Acquiring) × ((if t then Some (record { seat = e.seat; doc = doc; token = token; until = until }) else o) ≡ Some b) × (b.seat ≡ 0)
-    taken true doc token until = (record { seat = e.seat; doc = doc; token = token; until = until }, refl, own)
-    taken false doc token until = (a, is, first)
+    taken : (t : Bool) (doc token until : ℕ) → (b : Acquiring) × ((if t then Some (record { seat = e.seat; doc = doc; token = token; until = until }) else o) ≡ Some b)
+    taken true doc token until = (record { seat = e.seat; doc = doc; token = token; until = until }, refl)
+    taken false doc token until = (a, is)
 
-    by : (act : Act) → (b : Acquiring) × (acquired_by d e.seat act o ≡ Some b) × (b.seat ≡ 0)
+    by : (act : Act) → (b : Acquiring) × (acquired_by d e.seat act o ≡ Some b)
     by (Acquired doc token until) = taken (doc == d) doc token until
-    by _ = (a, is, first)
+    by _ = (a, is)
 
-pub one_more : (j : List Entry) (e : Entry) (p : Prepared) → e.seat ≡ 0 → cached_by p.look.doc e.act true ≡ true → is_in p.look.token (used_by e.act) ≡ false → Stands j p → Stands (j ++ e ∷ []) p
-one_more j e p own caches fresh was =
-    let last = still_acquired p.look.doc e (last_acquiring p.look.doc j) was.last own was.last_is was.own in
+pub one_more : {seat : ℕ} (j : List Entry) (e : Entry) (p : Prepared) → is_in p.look.token (used_by e.act) ≡ false → Stands seat j p → Stands seat (j ++ e ∷ []) p
+one_more j e p fresh was =
+    let last = still_acquired p.look.doc e (last_acquiring p.look.doc j) was.last was.last_is in
     let of = was.looked in
     let tokens = ap length (acquirings-push j e) in
     let sum = length-append (acquirings j) (acquiring_of e.seat e.act) in
@@ -41,11 +41,9 @@ one_more j e p own caches fresh was =
     record {
       seat_is = was.seat_is;
       made = made_stays p.look.doc j e was.made;
-      cached_is = cached-push p.look.doc j e ∙ ap (cached_by p.look.doc e.act) was.cached_is ∙ caches;
       given = omega (arith, tokens, sum, low);
       last = last.0;
       last_is = last_acquiring-push p.look.doc j e ∙ last.1;
-      own = last.2;
       named = update_stays j (e ∷ []) p.look.ticket p.look.update was.named;
       looked = record {
         early = of.early;
@@ -58,19 +56,19 @@ one_more j e p own caches fresh was =
     }
 
 -- ---- entries that are apart
-pub behind_apart : (holds : List (Option Prepared)) (left last : List Entry) → GoesApart (next_token left) left last → AreHeld holds left → AreHeld holds last
-behind_apart holds left last g held = record { stands = each; apart = held.apart }
+pub behind_apart : {seat : ℕ} (holds : List (Option Prepared)) (left last : List Entry) → GoesApart (next_token left) left last → AreHeld seat holds left → AreHeld seat holds last
+behind_apart {seat} holds left last g held = record { stands = each; apart = held.apart }
   where
-    each : (session : ℕ) (p : Prepared) → slice_get holds session ≡ Some (Some p) → Stands last p
+    each : (session : ℕ) (p : Prepared) → slice_get holds session ≡ Some (Some p) → Stands seat last p
     each session p at =
         let was = held.stands session p at in
         let low = was.given in
-        stays (next_token left) (λ j. Stands j p)
-        (λ j e apart. one_more j e p apart.own (keeps_cached (next_token left) p.look.doc e.act apart.apart) (unused (next_token left) p.look.token e (omega (arith, low)) apart)) left last g was
+        stays (next_token left) (λ j. Stands seat j p)
+        (λ j e apart. one_more j e p (unused (next_token left) p.look.token e (omega (arith, low)) apart)) left last g was
 
-pub behind_one : (holds : List (Option Prepared)) (j last : List Entry) (e : Entry) → last ≡ j ++ e ∷ [] → e.seat ≡ 0 → ((d : ℕ) → cached_by d e.act true ≡ true) → ((t : ℕ) → is_in t (used_by e.act) ≡ false) → AreHeld holds j → AreHeld holds last
-behind_one holds j last e is own caches unused held = record {
-  stands = λ session p at. subst (λ (l : List Entry). Stands l p) (sym is) (one_more j e p own (caches p.look.doc) (unused p.look.token) (held.stands session p at));
+pub behind_one : {seat : ℕ} (holds : List (Option Prepared)) (j last : List Entry) (e : Entry) → last ≡ j ++ e ∷ [] → ((t : ℕ) → is_in t (used_by e.act) ≡ false) → AreHeld seat holds j → AreHeld seat holds last
+behind_one {seat} holds j last e is unused held = record {
+  stands = λ session p at. subst (λ (l : List Entry). Stands seat l p) (sym is) (one_more j e p (unused p.look.token) (held.stands session p at));
   apart = held.apart;
 }
 
@@ -109,18 +107,18 @@ of_another holds session s p lt at = by (session == s) refl
         let apart : session ≢ s = λ same. true≢false (sym (eq-eqb session s same) ∙ e) in (apart, sym (set_there holds session s None apart) ∙ at)
 
 -- what a session gives up
-pub given_up : (holds : List (Option Prepared)) (j : List Entry) (session : ℕ) → session < length holds → AreHeld holds j → AreHeld (slice_set holds session None) j
+pub given_up : {seat : ℕ} (holds : List (Option Prepared)) (j : List Entry) (session : ℕ) → session < length holds → AreHeld seat holds j → AreHeld seat (slice_set holds session None) j
 given_up holds j session lt held = record {
   stands = λ s p at. held.stands s p (of_another holds session s p lt at).1;
   apart = λ one other p q differ at other_at. held.apart one other p q differ (of_another holds session one p lt at).1 (of_another holds session other q lt other_at).1;
 }
 
 -- what a session keeps more, under a token that is above those before
-pub taken_up : (holds : List (Option Prepared)) (left j : List Entry) (session : ℕ) (p : Prepared) → session < length holds → slice_get holds session ≡ Some None → next_token left ≡ p.look.token → AreHeld holds left → GoesApart (next_token left) left j → Stands j p
-    → AreHeld (slice_set holds session (Some p)) j
-taken_up holds left j session p lt none token held g stands_now = record { stands = stands_all; apart = apart_all }
+pub taken_up : {seat : ℕ} (holds : List (Option Prepared)) (left j : List Entry) (session : ℕ) (p : Prepared) → session < length holds → slice_get holds session ≡ Some None → next_token left ≡ p.look.token → AreHeld seat holds left → GoesApart (next_token left) left j → Stands seat j p
+    → AreHeld seat (slice_set holds session (Some p)) j
+taken_up {seat} holds left j session p lt none token held g stands_now = record { stands = stands_all; apart = apart_all }
   where
-    after : AreHeld holds j
+    after : AreHeld seat holds j
     after = behind_apart holds left j g held
 
     of : (s : ℕ) (q : Prepared) → slice_get (slice_set holds session (Some p)) s ≡ Some (Some q) → ((session ≡ s) × (q ≡ p)) ⊎ (slice_get holds s ≡ Some (Some q))
@@ -132,11 +130,11 @@ taken_up holds left j session p lt none token held g stands_now = record { stand
             inl (eqb-true session s e, cc)
         by false e = inr (sym (set_there holds session s (Some p) (λ same. true≢false (sym (eq-eqb session s same) ∙ e))) ∙ at)
 
-    stands_all : (s : ℕ) (q : Prepared) → slice_get (slice_set holds session (Some p)) s ≡ Some (Some q) → Stands j q
+    stands_all : (s : ℕ) (q : Prepared) → slice_get (slice_set holds session (Some p)) s ≡ Some (Some q) → Stands seat j q
     stands_all s q at = by (of s q at)
       where
-        by : ((session ≡ s) × (q ≡ p)) ⊎ (slice_get holds s ≡ Some (Some q)) → Stands j q
-        by (inl x) = subst (λ (r : Prepared). Stands j r) (sym x.1) stands_now
+        by : ((session ≡ s) × (q ≡ p)) ⊎ (slice_get holds s ≡ Some (Some q)) → Stands seat j q
+        by (inl x) = subst (λ (r : Prepared). Stands seat j r) (sym x.1) stands_now
         by (inr was) = after.stands s q was
 
     low : (s : ℕ) (q : Prepared) → slice_get holds s ≡ Some (Some q) → q.look.token < p.look.token
@@ -150,23 +148,3 @@ taken_up holds left j session p lt none token held g stands_now = record { stand
         by (inl x) (inr y) = λ same. let l = low other r y in let t = ap (λ (s : Prepared). s.look.token) x.1 in omega (arith, l, t, same)
         by (inr x) (inl y) = λ same. let l = low one q x in let t = ap (λ (s : Prepared). s.look.token) y.1 in omega (arith, l, t, same)
         by (inr x) (inr y) = held.apart one other q r differ x y
-
--- ---- under a token
-pub held_own : (d token : ℕ) (j : List Entry) (a : Acquiring) → last_acquiring d j ≡ Some a → a.seat ≡ 0 → staleness d token j ≡ None → Holds 0 d token j
-held_own d token j a last own none = by (last_token d j == token) refl (is_held d j) refl none
-  where
-    by : (b : Bool) → (last_token d j == token) ≡ b → (h : Bool) → is_held d j ≡ h → (if b then (if h then None else Some Ended) else Some (Other (last_token d j))) ≡ None → Holds 0 d token j
-    by false same h held none = absurd (cc)
-    by true same false held none = absurd (cc)
-    by true same true held none =
-        let standing : not (is_in a.token (released j)) ≡ true = ap (λ o. is_held_in o (released j)) (sym last) ∙ held in
-        record {
-          acquiring = a;
-          held = record { last = last; standing = is_false (is_in a.token (released j)) standing };
-          token_is = ap token_in (sym last) ∙ eqb-true (last_token d j) token same;
-          seat_is = own;
-        }
-      where
-        is_false : (b : Bool) → not b ≡ true → b ≡ false
-        is_false true e = absurd (true≢false (sym e))
-        is_false false e = refl

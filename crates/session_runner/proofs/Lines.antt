@@ -1,9 +1,10 @@
 -- What the lines that were done leave.
-use Rattle.std.proofs.Common.{◌≡◌, ◌≢◌, ◌⊎◌, ℕ, zero, suc, ◌+◌, ◌-◌, ◌≤◌, ◌<◌, List, [], ◌∷◌, ◌++◌, length, take, Bool, true, false, true≢false, ◌||◌, ◌&&◌, not, refl, sym, ap, ◌∙◌, subst, inl, inr, arith, append-nil, append_assoc, All}
+use Rattle.std.proofs.Common.{◌≡◌, ◌≢◌, ◌⊎◌, ℕ, zero, suc, ◌+◌, ◌-◌, ◌≤◌, ◌<◌, List, [], ◌∷◌, ◌++◌, length, take, Bool, true, false, true≢false, ◌||◌, ◌&&◌, not, refl, sym, ap, ◌∙◌, subst, inl, inr, arith, append-nil, append_assoc, All, eq-eqb}
 use Rattle.std.specs.Prelude.{Option, Some, None, Result, Ok, Err, OnOk, IfOk, ◌==◌, is_some, map, slice_get, option_and_then, position, cond, nat_lt, if◌then◌else◌}
 use Rattle.std.specs.Global.{Vec}
 use Rattle.std.specs.Result.{is_ok}
 use Rattle.std.specs.List.{list_all, list_any, position_or_len}
+use Rattle.std.proofs.Math.Bool.{or-true}
 use Rattle.std.proofs.lemmas.Bool.{and_parts, le-ltb}
 use Rattle.std.proofs.lemmas.List.Elements.{All-append, All-nil, All-cons}
 use Rattle.ot_op.specs.declared.comp.Comp.{Comp}
@@ -40,15 +41,15 @@ use Rattle.project_histories.specs.Handing.{items_of, shown_item}
 use Rattle.project_histories.proofs.Lists.{at_within}
 use Rattle.session_runner.specs.declared.driver.Driver.{Driver}
 use Rattle.session_runner.specs.Apart.{GoesApart, IsApart, IsBehind, is_apart}
-use Rattle.session_runner.specs.Clients.{AreClientsOf, GoesQuietly, is_of_none}
+use Rattle.session_runner.specs.Clients.{AreOwnClientsOf, GoesQuietly, is_of_none}
 use Rattle.session_runner.specs.Syncing.{GoesApartThenQuietly}
-use Rattle.session_runner.proofs.Clients.{all_stay, one_stays}
+use Rattle.session_runner.proofs.Clients.{one_stays, own_stay}
 use Rattle.session_runner.proofs.Quiet.{quiet_clock, quiet_closed, quiet_makings}
 use Rattle.share_client.specs.Clients.{Numbered}
 use Rattle.journal_rules.specs.Client.{away, client}
 use Rattle.journal_rules.proofs.Pushing.{client-none}
 use Rattle.session_runner.specs.Fitting.{makings_by}
-use Rattle.session_runner.specs.Handing.{items_handed}
+use Rattle.session_runner.specs.Handing.{is_own, items_handed_by}
 use Rattle.session_runner.specs.Holding.{AreHeld, IsDriver, kept, kept_in}
 use Rattle.session_runner.proofs.Apart.{same_clients, same_clock, same_closed, same_if, same_makings, wrote}
 use Rattle.session_runner.proofs.Handing.{apart_hands_none, handed_by-none, handed_by-push, hands, items_of_hand}
@@ -114,26 +115,31 @@ drains_named by session doc name first mid last stop named some drains is =
     subst (λ o. DrainsNamed by Alone session o first last) (sym named) (drains_so_many by session doc (length (waiting doc first)) first mid last stop some drains is)
 
 -- ---- a book with one entry more
+-- one's own entry is one's own
+own_here : (drivers seat : ℕ) → (drivers == 0 || seat == seat) ≡ true
+own_here drivers seat = ap (λ b. drivers == 0 || b) (eq-eqb seat seat refl) ∙ or-true (drivers == 0)
+
 module _ {K : Type 0} (driver : Driver K) (new : Shown) (line : Option ℕ) where
   pub added : (act : Act) (handed : Vec Item) → is_of_none act ≡ true → ((d : ℕ) → cached_by d act true ≡ true) → ((t : ℕ) → is_in t (used_by act) ≡ false) → handed.items ≡ driver.handed.items ++ items_of driver.book.journal act
-      → IsDriver driver → new ≡ adds driver.book 0 line (act ∷ []) → IsDriver (record driver { book = new; handed = handed })
+      → IsDriver driver → new ≡ adds driver.book driver.seat line (act ∷ []) → IsDriver (record driver { book = new; handed = handed })
   added act handed of_none caches unused hands was is = record {
-    alone = ap (λ (b : Shown). b.drivers) is ∙ was.alone;
-    held = behind_one driver.holds.items driver.book.journal new.journal (entry_by 0 line act) (ap (λ (b : Shown). b.journal) is) refl caches unused was.held;
-    clients = subst (AreClientsOf driver.clients.items) (sym (ap (λ (b : Shown). b.journal) is)) (all_stay driver.clients.items driver.book.journal (driver.book.journal ++ entry_by 0 line act ∷ []) (one_stays driver.book.journal (entry_by 0 line act) of_none) was.clients);
+    held = behind_one driver.holds.items driver.book.journal new.journal (entry_by driver.seat line act) (ap (λ (b : Shown). b.journal) is) unused was.held;
+    clients = subst (λ (b : Shown). AreOwnClientsOf b.drivers driver.seat driver.clients.items b.journal) (sym is) (own_stay driver.book.drivers driver.seat driver.clients.items driver.book.journal (driver.book.journal ++ entry_by driver.seat line act ∷ []) (one_stays driver.book.journal (entry_by driver.seat line act) of_none) was.clients);
     many = was.many;
-    handed = hands ∙ ap (λ xs. xs ++ items_of driver.book.journal act) was.handed ∙ sym (ap (λ (b : Shown). items_handed b.journal) is ∙ handed_by-push (λ e. true) driver.book.journal (entry_by 0 line act));
+    handed = hands ∙ ap (λ xs. xs ++ items_of driver.book.journal act) was.handed
+        ∙ sym (ap (λ (b : Shown). items_handed_by (is_own b.drivers driver.seat) b.journal) is ∙ handed_by-push (is_own driver.book.drivers driver.seat) driver.book.journal (entry_by driver.seat line act)
+        ∙ ap (λ (b : Bool). items_handed_by (is_own driver.book.drivers driver.seat) driver.book.journal ++ (if b then items_of driver.book.journal act else [])) (own_here driver.book.drivers driver.seat));
   }
 
   -- where it hands nothing out
-  added_plainly : (act : Act) → is_of_none act ≡ true → ((d : ℕ) → cached_by d act true ≡ true) → ((t : ℕ) → is_in t (used_by act) ≡ false) → items_of driver.book.journal act ≡ [] → IsDriver driver → new ≡ adds driver.book 0 line (act ∷ []) → IsDriver (record driver { book = new })
+  added_plainly : (act : Act) → is_of_none act ≡ true → ((d : ℕ) → cached_by d act true ≡ true) → ((t : ℕ) → is_in t (used_by act) ≡ false) → items_of driver.book.journal act ≡ [] → IsDriver driver → new ≡ adds driver.book driver.seat line (act ∷ []) → IsDriver (record driver { book = new })
   added_plainly act of_none caches unused none = added act driver.handed of_none caches unused (sym (ap (λ xs. driver.handed.items ++ xs) none ∙ append-nil driver.handed.items))
 
-  pub declined : (session : ℕ) (why : Why) → IsDriver driver → new ≡ adds driver.book 0 line (Declined session why ∷ []) → IsDriver (record driver { book = new })
+  pub declined : (session : ℕ) (why : Why) → IsDriver driver → new ≡ adds driver.book driver.seat line (Declined session why ∷ []) → IsDriver (record driver { book = new })
   declined session why = added_plainly (Declined session why) refl (λ d. refl) (λ t. refl) refl
 
   pub drained : new.drivers ≡ driver.book.drivers → GoesApart (next_token driver.book.journal) driver.book.journal new.journal → IsDriver driver → IsDriver (record driver { book = new })
-  drained same g was = record { alone = same ∙ was.alone; held = behind_apart driver.holds.items driver.book.journal new.journal g was.held; clients = all_stay driver.clients.items driver.book.journal new.journal (same_clients (next_token driver.book.journal) driver.book.journal new.journal g) was.clients; many = was.many; handed = was.handed ∙ sym (apart_hands_none (λ e. true) (next_token driver.book.journal) driver.book.journal new.journal g) }
+  drained same g was = record { held = behind_apart driver.holds.items driver.book.journal new.journal g was.held; clients = subst (λ d. AreOwnClientsOf d driver.seat driver.clients.items new.journal) (sym same) (own_stay driver.book.drivers driver.seat driver.clients.items driver.book.journal new.journal (same_clients (next_token driver.book.journal) driver.book.journal new.journal g) was.clients); many = was.many; handed = was.handed ∙ sym (ap (λ d. items_handed_by (is_own d driver.seat) new.journal) same ∙ apart_hands_none (is_own driver.book.drivers driver.seat) (next_token driver.book.journal) driver.book.journal new.journal g) }
 
 raw_caches : (op : Result (List Comp) FormFault) (now : ℕ) (u : RawUpdate) (d : ℕ) → cached_by d (raw_act_of op now u) true ≡ true
 raw_caches (Ok op) now u d = refl
@@ -155,18 +161,18 @@ raw_apart : (op : Result (List Comp) FormFault) (now : ℕ) (u : RawUpdate) (fro
 raw_apart (Ok op) now u from = refl
 raw_apart (Err fault) now u from = refl
 
-pub sent : {K : Type 0} (driver : Driver K) (new : Shown) (line : Option ℕ) (now : ℕ) (u : RawUpdate) → IsDriver driver → new ≡ adds driver.book 0 line (raw_act now u ∷ []) → IsDriver (record driver { book = new })
+pub sent : {K : Type 0} (driver : Driver K) (new : Shown) (line : Option ℕ) (now : ℕ) (u : RawUpdate) → IsDriver driver → new ≡ adds driver.book driver.seat line (raw_act now u ∷ []) → IsDriver (record driver { book = new })
 sent driver new line now u = added_plainly driver new line (raw_act now u) (raw_of_none u.op now u) (raw_caches u.op now u) (raw_uses u.op now u) (raw_hands_none u.op now u driver.book.journal)
 
-pub made : {K : Type 0} (driver : Driver K) (new : Shown) (line : Option ℕ) (doc : ℕ) (name project first : List ℕ) (base : ℕ) → IsDriver driver → new ≡ adds driver.book 0 line (Made doc name project first base ∷ []) → IsDriver (record driver { book = new })
+pub made : {K : Type 0} (driver : Driver K) (new : Shown) (line : Option ℕ) (doc : ℕ) (name project first : List ℕ) (base : ℕ) → IsDriver driver → new ≡ adds driver.book driver.seat line (Made doc name project first base ∷ []) → IsDriver (record driver { book = new })
 made driver new line doc name project first base = added_plainly driver new line (Made doc name project first base) refl (λ d. same_if (doc == d)) (λ t. refl) refl
 
-pub ticked : {K : Type 0} (driver : Driver K) (new : Shown) (line : Option ℕ) (ms : ℕ) → IsDriver driver → new ≡ adds driver.book 0 line (Ticked ms ∷ []) → IsDriver (record driver { book = new })
+pub ticked : {K : Type 0} (driver : Driver K) (new : Shown) (line : Option ℕ) (ms : ℕ) → IsDriver driver → new ≡ adds driver.book driver.seat line (Ticked ms ∷ []) → IsDriver (record driver { book = new })
 ticked driver new line ms = added_plainly driver new line (Ticked ms) refl (λ d. refl) (λ t. refl) refl
 
 -- what a `hand` hands out stands behind what was handed out before
 pub handed_more : {K : Type 0} (driver : Driver K) (new : Shown) (line : Option ℕ) (session n : ℕ) (project : List ℕ) (handed : Vec Item) → is_project project driver.book.journal ≡ true
-    → handed.items ≡ driver.handed.items ++ map shown_item (take n (history project driver.book.journal)) → IsDriver driver → new ≡ adds driver.book 0 line (hands session n project driver.book.journal ∷ []) → IsDriver (record driver { book = new; handed = handed })
+    → handed.items ≡ driver.handed.items ++ map shown_item (take n (history project driver.book.journal)) → IsDriver driver → new ≡ adds driver.book driver.seat line (hands session n project driver.book.journal ∷ []) → IsDriver (record driver { book = new; handed = handed })
 handed_more driver new line session n project handed known items =
     added driver new line (hands session n project driver.book.journal) handed refl (λ d. refl) (λ t. refl) (items ∙ ap (λ xs. driver.handed.items ++ xs) (sym (items_of_hand session n project driver.book.journal)))
 
@@ -180,10 +186,10 @@ apart_behind line from left last none still g =
       closed_is = same_closed from left last g;
     }
 
-module _ (line : Option ℕ) (left last : List Entry) where
-  pub behind_doc : (doc : ℕ) (name project first : List ℕ) (base : ℕ) → last ≡ left ++ entry_by 0 line (Made doc name project first base) ∷ [] → IsBehind (Doc name project first base) left last
+module _ (seat : ℕ) (line : Option ℕ) (left last : List Entry) where
+  pub behind_doc : (doc : ℕ) (name project first : List ℕ) (base : ℕ) → last ≡ left ++ entry_by seat line (Made doc name project first base) ∷ [] → IsBehind (Doc name project first base) left last
   behind_doc doc name project first base is =
-      let e = entry_by 0 line (Made doc name project first base) in
+      let e = entry_by seat line (Made doc name project first base) in
       let c = ap clock is ∙ clock-push left e in
       record {
         makings_are = ap makings is ∙ makings-push left e;
@@ -191,17 +197,17 @@ module _ (line : Option ℕ) (left last : List Entry) where
         closed_is = ap closed is ∙ closed-push left e ∙ append-nil (closed left);
       }
 
-  pub behind_tick : (session ms : ℕ) → last ≡ left ++ entry_by 0 line (Ticked ms) ∷ [] → IsBehind (Tick session ms) left last
+  pub behind_tick : (session ms : ℕ) → last ≡ left ++ entry_by seat line (Ticked ms) ∷ [] → IsBehind (Tick session ms) left last
   behind_tick session ms is =
-      let e = entry_by 0 line (Ticked ms) in
+      let e = entry_by seat line (Ticked ms) in
       record {
         makings_are = ap makings is ∙ makings-push left e ∙ append-nil (makings left);
         clock_is = ap clock is ∙ clock-push left e;
         closed_is = ap closed is ∙ closed-push left e ∙ append-nil (closed left);
       }
 
-  pub apart_raw : (from now : ℕ) (u : RawUpdate) → last ≡ left ++ entry_by 0 line (raw_act now u) ∷ [] → GoesApart from left last
-  apart_raw from now u is = wrote line from (raw_act now u) left last (raw_apart u.op now u from) is
+  pub apart_raw : (from now : ℕ) (u : RawUpdate) → last ≡ left ++ entry_by seat line (raw_act now u) ∷ [] → GoesApart from left last
+  apart_raw from now u is = wrote seat line from (raw_act now u) left last (raw_apart u.op now u from) is
 
 -- ---- a name that is new
 module _ {A : Type 0} (p : A → Bool) where
@@ -236,16 +242,15 @@ kept_none holds all = λ i s. each s (slice_get holds s) refl i
     each s None at = ap (option_and_then kept) at
     each s (Some o) at = ap (option_and_then kept) (at ∙ ap (λ x. Some x) (at_none holds all s o at))
 
-pub empty_driver : {K : Type 0} (driver : Driver K) → (driver.book.journal ≡ []) × (driver.book.drivers ≡ 0) × (driver.handed.items ≡ []) → All (λ k. k ≡ None) driver.holds.items → ((c : ℕ) (x : Numbered) → slice_get driver.clients.items c ≡ Some x → x ≡ record { client = c; now = away }) → length driver.clients.items ≡ length driver.holds.items → IsDriver driver
+pub empty_driver : {K : Type 0} (driver : Driver K) → (driver.book.journal ≡ []) × (driver.handed.items ≡ []) → All (λ k. k ≡ None) driver.holds.items → ((c : ℕ) (x : Numbered) → slice_get driver.clients.items c ≡ Some x → x ≡ record { client = c; now = away }) → length driver.clients.items ≡ length driver.holds.items → IsDriver driver
 empty_driver driver book all aways many = record {
-  alone = book.1;
   held = record {
     stands = λ session p at. let e = at_none driver.holds.items all session (Some p) at in absurd (cc);
     apart = λ one other p q differ at other_at. let e = at_none driver.holds.items all one (Some p) at in absurd (cc);
   };
-  clients = record { each = λ c x at. (let is = aways c x at in (ap (λ (y : Numbered). y.client) is, ap (λ (y : Numbered). y.now) is ∙ sym (ap (client x.client) book.0 ∙ client-none x.client))) };
+  clients = record { each = λ c x at. (let is = aways c x at in (ap (λ (y : Numbered). y.client) is, λ mine. ap (λ (y : Numbered). y.now) is ∙ sym (ap (client x.client) book.0 ∙ client-none x.client))) };
   many = many;
-  handed = book.2 ∙ sym (ap items_handed book.0 ∙ handed_by-none (λ e. true));
+  handed = book.1 ∙ sym (ap (items_handed_by (is_own driver.book.drivers driver.seat)) book.0 ∙ handed_by-none (is_own driver.book.drivers driver.seat));
 }
 
 -- ---- a line of a session's client

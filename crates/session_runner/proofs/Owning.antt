@@ -1,5 +1,5 @@
 -- A line of a session's client: what it makes is the client's own, and the driver stands behind it.
-use Rattle.std.proofs.Common.{◌≡◌, ℕ, zero, suc, ◌+◌, arith, ◌<◌, List, [], ◌∷◌, ◌++◌, length, slice_set, Bool, true, false, not, refl, sym, ap, ◌∙◌, subst, eq-eqb, append-nil}
+use Rattle.std.proofs.Common.{◌≡◌, ℕ, zero, suc, ◌+◌, arith, ◌<◌, List, [], ◌∷◌, ◌++◌, length, slice_set, Bool, true, false, not, refl, sym, ap, ◌∙◌, subst, eq-eqb, append-nil, ap₂}
 use Rattle.std.specs.Prelude.{slice_get, slice_index_or, Option, Some, None, nat_lt, if◌then◌else◌}
 use Rattle.std.specs.Global.{Vec}
 use Rattle.std.proofs.lemmas.List.{length-set}
@@ -33,11 +33,12 @@ use Rattle.client_lines.specs.Joining.{join_act}
 use Rattle.book.specs.Roomed.{IsClientAfter, IsClientOf}
 use Rattle.book.specs.Shown.{Shown, adds}
 use Rattle.session_runner.specs.declared.driver.Driver.{Driver}
-use Rattle.session_runner.specs.Clients.{AreClientsOf, GoesQuietly, IsQuietOf, is_at_most, is_of_session, is_quiet}
+use Rattle.session_runner.specs.Clients.{GoesQuietly, IsQuietOf, is_at_most, is_of_session, is_quiet}
 use Rattle.session_runner.specs.Holding.{IsDriver}
 use Rattle.session_runner.specs.Syncing.{GoesApartThenQuietly}
 use Rattle.session_runner.proofs.Apart.{same_clients}
-use Rattle.session_runner.proofs.Clients.{one_moves}
+use Rattle.session_runner.specs.Handing.{is_own, items_handed_by}
+use Rattle.session_runner.proofs.Clients.{own_moves}
 use Rattle.session_runner.proofs.Handing.{apart_hands_none, quiet_hands_none}
 use Rattle.session_runner.proofs.Holding.{behind_apart}
 use Rattle.session_runner.proofs.Quiet.{quiet_held, quiet_one, quiet_others}
@@ -114,34 +115,32 @@ own_join session None user track j = record { quiet = refl; its = refl }
 own_join session (Some doc) user track j = record { quiet = refl; its = eq-eqb session session refl }
 
 -- ---- one act
-pub own_goes : (session : ℕ) (left last : Shown) (line : Option ℕ) (act : Act) → last ≡ adds left 0 line (act ∷ []) → IsOwn session act → GoesQuietly session left.journal last.journal
-own_goes session left last line act is own = quiet_one session left.journal last.journal (entry_by 0 line act) (ap (λ (b : Shown). b.journal) is) (record { own = refl; quiet = own.quiet; its = own.its })
+pub own_goes : (seat : ℕ) (session : ℕ) (left last : Shown) (line : Option ℕ) (act : Act) → last ≡ adds left seat line (act ∷ []) → IsOwn session act → GoesQuietly session left.journal last.journal
+own_goes seat session left last line act is own = quiet_one session left.journal last.journal (entry_by seat line act) (ap (λ (b : Shown). b.journal) is) (record { quiet = own.quiet; its = own.its })
 
 -- the entry of a client's number is its session's
-pub own_act : (left last : Shown) (seat number session : ℕ) (line : Option ℕ) (act : ℕ → Act) → seat ≡ 0 → number ≡ session → last ≡ adds left seat line (act number ∷ []) → last ≡ adds left 0 line (act session ∷ [])
-own_act left last seat number session line act seat_is same is = subst (λ n. last ≡ adds left n line (act session ∷ [])) seat_is (subst (λ n. last ≡ adds left seat line (act n ∷ [])) same is)
+pub own_act : (left last : Shown) (seat by number session : ℕ) (line : Option ℕ) (act : ℕ → Act) → by ≡ seat → number ≡ session → last ≡ adds left by line (act number ∷ []) → last ≡ adds left seat line (act session ∷ [])
+own_act left last seat by number session line act seat_is same is = subst (λ n. last ≡ adds left n line (act session ∷ [])) seat_is (subst (λ n. last ≡ adds left by line (act n ∷ [])) same is)
 
 -- ---- the driver behind a session's own entries
-pub own_driver : {K : Type 0} (driver now : Driver K) (session : ℕ) (was is : Numbered) → IsDriver driver → slice_get driver.clients.items session ≡ Some was → now.holds ≡ driver.holds → now.handed ≡ driver.handed → now.clients.items ≡ slice_set driver.clients.items session is
+pub own_driver : {K : Type 0} (driver now : Driver K) (session : ℕ) (was is : Numbered) → IsDriver driver → slice_get driver.clients.items session ≡ Some was → now.seat ≡ driver.seat → now.holds ≡ driver.holds → now.handed ≡ driver.handed → now.clients.items ≡ slice_set driver.clients.items session is
     → now.book.drivers ≡ driver.book.drivers → GoesQuietly session driver.book.journal now.book.journal → IsClientAfter now.book.journal was is → IsDriver now
-own_driver driver now session was is stood at holds kept set drivers g after = record {
-  alone = drivers ∙ stood.alone;
-  held = rw holds (quiet_held session driver.book.journal now.book.journal g driver.holds.items stood.held);
-  clients = rw set (one_moves driver.clients.items session was is driver.book.journal now.book.journal at after (quiet_others session driver.book.journal now.book.journal g) stood.clients);
+own_driver driver now session was is stood at seat holds kept set drivers g after = record {
+  held = rw (seat, holds) (quiet_held session driver.book.journal now.book.journal g driver.holds.items stood.held);
+  clients = rw (drivers, seat, set) (own_moves driver.book.drivers driver.seat driver.clients.items session was is driver.book.journal now.book.journal at after (quiet_others session driver.book.journal now.book.journal g) stood.clients);
   many = ap length set ∙ length-set driver.clients.items session is ∙ stood.many ∙ ap (λ (v : _). length v.items) (sym holds);
-  handed = ap (λ (v : Vec Item). v.items) kept ∙ stood.handed ∙ sym (quiet_hands_none (λ e. true) session driver.book.journal now.book.journal g);
+  handed = ap (λ (v : Vec Item). v.items) kept ∙ stood.handed ∙ sym (ap₂ (λ d s. items_handed_by (is_own d s) now.book.journal) drivers seat ∙ quiet_hands_none (is_own driver.book.drivers driver.seat) session driver.book.journal now.book.journal g);
 }
 
-pub synced_driver : {K : Type 0} (driver now : Driver K) (session : ℕ) (was is : Numbered) → IsDriver driver → slice_get driver.clients.items session ≡ Some was → now.holds ≡ driver.holds → now.handed ≡ driver.handed → now.clients.items ≡ slice_set driver.clients.items session is
+pub synced_driver : {K : Type 0} (driver now : Driver K) (session : ℕ) (was is : Numbered) → IsDriver driver → slice_get driver.clients.items session ≡ Some was → now.seat ≡ driver.seat → now.holds ≡ driver.holds → now.handed ≡ driver.handed → now.clients.items ≡ slice_set driver.clients.items session is
     → now.book.drivers ≡ driver.book.drivers → GoesApartThenQuietly (next_token driver.book.journal) session driver.book.journal now.book.journal → IsClientAfter now.book.journal was is → IsDriver now
-synced_driver driver now session was is stood at holds kept set drivers g after =
+synced_driver driver now session was is stood at seat holds kept set drivers g after =
     let left = driver.book.journal in
     record {
-      alone = drivers ∙ stood.alone;
-      held = rw holds (quiet_held session g.mid now.book.journal g.quiet driver.holds.items (behind_apart driver.holds.items left g.mid g.apart stood.held));
-      clients = rw set (one_moves driver.clients.items session was is left now.book.journal at after (λ c apart. quiet_others session g.mid now.book.journal g.quiet c apart ∙ same_clients (next_token left) left g.mid g.apart c) stood.clients);
+      held = rw (seat, holds) (quiet_held session g.mid now.book.journal g.quiet driver.holds.items (behind_apart driver.holds.items left g.mid g.apart stood.held));
+      clients = rw (drivers, seat, set) (own_moves driver.book.drivers driver.seat driver.clients.items session was is left now.book.journal at after (λ c apart. quiet_others session g.mid now.book.journal g.quiet c apart ∙ same_clients (next_token left) left g.mid g.apart c) stood.clients);
       many = ap length set ∙ length-set driver.clients.items session is ∙ stood.many ∙ ap (λ (v : _). length v.items) (sym holds);
-      handed = ap (λ (v : Vec Item). v.items) kept ∙ stood.handed ∙ sym (quiet_hands_none (λ e. true) session g.mid now.book.journal g.quiet ∙ apart_hands_none (λ e. true) (next_token left) left g.mid g.apart);
+      handed = ap (λ (v : Vec Item). v.items) kept ∙ stood.handed ∙ sym (ap₂ (λ d s. items_handed_by (is_own d s) now.book.journal) drivers seat ∙ quiet_hands_none (is_own driver.book.drivers driver.seat) session g.mid now.book.journal g.quiet ∙ apart_hands_none (is_own driver.book.drivers driver.seat) (next_token left) left g.mid g.apart);
     }
 
 -- ---- joining

@@ -66,8 +66,8 @@ module _ (session : ℕ) (left last : List Entry) (g : GoesQuietly session left 
   pub quiet_released : released last ≡ released left
   quiet_released = stays session (λ j. released j ≡ released left) (λ j e is same. released-push j e ∙ ap (λ ts. released j ++ ts) (facts e.seat e.act is.quiet).releases ∙ append-nil (released j) ∙ same) left last g refl
 
-  pub quiet_held : (holds : List (Option Prepared)) → AreHeld holds left → AreHeld holds last
-  quiet_held holds held = stays session (AreHeld holds) (λ j e is was. behind_one holds j (j ++ e ∷ []) e refl is.own (facts e.seat e.act is.quiet).caches (facts e.seat e.act is.quiet).uses was) left last g held
+  pub quiet_held : {seat : ℕ} (holds : List (Option Prepared)) → AreHeld seat holds left → AreHeld seat holds last
+  quiet_held {seat} holds held = stays session (AreHeld seat holds) (λ j e is was. behind_one holds j (j ++ e ∷ []) e refl (facts e.seat e.act is.quiet).uses was) left last g held
 
 -- ---- going on
 pub quiet_none : (session : ℕ) (left last : List Entry) → last ≡ left → GoesQuietly session left last

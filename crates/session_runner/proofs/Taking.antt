@@ -9,10 +9,9 @@ use Rattle.dup_check.specs.declared.snapshot.Snapshot.{Snapshot}
 use Rattle.journal_entries.specs.declared.act.Entry.{Entry}
 use Rattle.journal_entries.specs.declared.why.Why.TheVariants.{Empty as NothingWaits, Busy as IsBusy, Stale as IsStale}
 use Rattle.journal_rules.specs.Documents.{IsMade, is_in, makings, waiting}
-use Rattle.journal_rules.specs.Keeping.{cached}
 use Rattle.journal_rules.specs.Locks.{Acquiring, acquirings, acquiring_of, is_expired, is_held, is_held_in, last_acquiring, last_token, released, token_in, used_by}
 use Rattle.journal_rules.specs.Whys.{IsBusyWith, IsWhy}
-use Rattle.journal_rules.proofs.Pushing.{acquirings-push, cached-push}
+use Rattle.journal_rules.proofs.Pushing.{acquirings-push}
 use Rattle.journal_rules.proofs.Lists.{some_same}
 use Rattle.turn_rules.specs.Draining.{HeldUp, StopsAt, stop_by}
 use Rattle.turn_rules.specs.Locking.{acquired, busy, busy_by, staleness}
@@ -114,33 +113,28 @@ module _ (seat : ℕ) (line : Option ℕ) (doc : ℕ) (old new : List Entry) (lo
   last_took = last_taken seat line doc old new look is looks doc_is
 
   -- what was prepared of it stands
-  module _ (p : Prepared) (look_is : p.look ≡ look) (seat_is : seat ≡ 0) (free : acquire_refused doc old ≡ None) (here : cached doc old ≡ true) where
+  module _ (p : Prepared) (look_is : p.look ≡ look) (free : acquire_refused doc old ≡ None) where
     abbrev entry : Entry
     entry = entry_by seat line (acquired doc old)
 
     made_now : IsMade doc new
     made_now = subst (IsMade doc) (sym is) (made_stays doc old entry (made_of_free doc old free))
 
-    cached_now : cached doc new ≡ true
-    cached_now = ap (cached doc) is ∙ cached-push doc old entry ∙ here
-
     given_now : look.token ≤ length (acquirings new)
     given_now =
         let l = ap (λ (j : List Entry). length (acquirings j)) is in let a = ap length (acquirings-push old entry) in let n = length-append (acquirings old) (acquiring_of seat (acquired doc old)) in
         let t = token_taken seat line doc old new look is looks doc_is in omega (arith, l, a, n, t)
 
-    at_look : Stands new (record { look = look; decision = p.decision }) → Stands new p
-    at_look s = subst (λ (q : Prepared). Stands new q) (ap (λ (l : Snapshot). record { look = l; decision = p.decision }) (sym look_is)) s
+    at_look : Stands seat new (record { look = look; decision = p.decision }) → Stands seat new p
+    at_look s = subst (λ (q : Prepared). Stands seat new q) (ap (λ (l : Snapshot). record { look = l; decision = p.decision }) (sym look_is)) s
 
-    pub stands_taken : IsDecided p.look p.decision → Stands new p
+    pub stands_taken : IsDecided p.look p.decision → Stands seat new p
     stands_taken decided = at_look (record {
-      seat_is = seat_of ∙ seat_is;
+      seat_is = seat_of;
       made = subst (λ d. IsMade d new) (sym doc_is) made_now;
-      cached_is = ap (λ d. cached d new) doc_is ∙ cached_now;
       given = given_now;
       last = took;
       last_is = last_took;
-      own = seat_is;
       named = looks.update_is;
       looked = record { early = new; more = []; journal_is = sym (append-nil new); looks = looks; unused = All-nil (λ (e : Entry). is_in look.token (used_by e.act) ≡ false) };
       decided = subst (λ (l : Snapshot). IsDecided l p.decision) look_is decided;

@@ -26,9 +26,8 @@ is_apart from (Handed project count) = false
 is_apart from (Closed driver) = false
 is_apart from _ = true
 
--- so it is, and by seat 0
+-- an entry of such an act
 pub record IsApart (from : ℕ) (e : Entry) : Type 0 where
-  pub own : e.seat ≡ 0
   pub apart : is_apart from e.act ≡ true
 
 -- a journal goes on by such entries

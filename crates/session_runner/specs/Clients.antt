@@ -4,12 +4,17 @@ use Rattle.journal_entries.specs.declared.act.Act.{Act}
 use Rattle.journal_entries.specs.declared.act.Act.TheVariants.{Joined, Edited, Sent, Got, Left, Declined}
 use Rattle.journal_entries.specs.declared.act.Entry.{Entry}
 use Rattle.journal_rules.specs.Client.{client}
+use Rattle.turn_rules.specs.Owning.{client_owner}
 use Rattle.book.specs.Roomed.{IsClientOf}
 use Rattle.share_client.specs.Clients.{Numbered}
 
 -- each session's client is the journal's of its number
 pub record AreClientsOf (clients : List Numbered) (journal : List Entry) : Type 0 where
   pub each : (c : ℕ) (s : Numbered) → slice_get clients c ≡ Some s → (s.client ≡ c) × IsClientOf journal s
+
+-- so is each that a seat owns
+pub record AreOwnClientsOf (drivers seat : ℕ) (clients : List Numbered) (journal : List Entry) : Type 0 where
+  pub each : (c : ℕ) (s : Numbered) → slice_get clients c ≡ Some s → (s.client ≡ c) × (client_owner drivers c ≡ seat → IsClientOf journal s)
 
 -- all clients are what they were, or all but one
 abbrev pub StayAll : List Entry → List Entry → Type 0
@@ -53,9 +58,8 @@ is_quiet (Left client) = true
 is_quiet (Declined session why) = true
 is_quiet _ = false
 
--- a journal goes on by such entries of seat 0, which are of no client but this session's
+-- a journal goes on by such entries, which are of no client but this session's
 pub record IsQuietOf (session : ℕ) (e : Entry) : Type 0 where
-  pub own : e.seat ≡ 0
   pub quiet : is_quiet e.act ≡ true
   pub its : is_of_session session e.act ≡ true
 

@@ -1,4 +1,4 @@
-//! The driver of a run on one thread: it does the lines of a script in order.
+//! A driver of a run: it does its lines of a script in order.
 
 ghost use Rattle.std.specs.Prelude.{◌≡◌, ◌+◌, ◌<◌, ◌≤◌, ◌^◌, ◌-◌, ◌∷◌, [], ℕ, true, length, slice_get, slice_set, sum_by, IfOk, OnOk, None, Some, Option, is_some, All};
 ghost use Rattle.book.specs.Calls.{raw_act};
@@ -15,6 +15,7 @@ ghost use Rattle.session_lines.specs.Standing.{AreBySessions, is_one_of, moved_b
 ghost use Rattle.run_rules.specs.Keeping.{keeping, nothing_kept};
 ghost use Rattle.run_rules.specs.Plain.{hand_act};
 ghost use Rattle.run_rules.specs.Lines.{Does, DrainsNamed, Finishes, FlushesNamed, Holds, Joins, Leads, Syncs, numbered};
+ghost use Rattle.turn_rules.specs.Owning.{client_owner};
 ghost use Rattle.turn_rules.specs.Turns.{Alone, Turn, entry_by};
 ghost use Rattle.session_runner.specs.Apart.{GoesApart, IsBehind};
 ghost use Rattle.session_runner.specs.Clients.{AreClientsOf, GoesQuietly};
@@ -43,10 +44,11 @@ use session_lines::Line;
 use share_client::{Edit, ShareClient};
 use std::alloc::{AllocError, Global};
 
-/// The book of a run, what each session keeps from a `hold` to its next `finish`, each session's
+/// A seat, the book of a run, what each session keeps from a `hold` to its next `finish`, each session's
 /// client, by the sessions' numbers, and what was handed out of the projects' histories, in order.
 #[derive(Drop)]
 pub(crate) struct Driver<K: Keeper> {
+    pub seat: u32,
     pub book: Book<K>,
     pub holds: Vec<Option<Prepared>>,
     pub clients: Vec<ShareClient>,
@@ -111,6 +113,7 @@ impl<K: Keeper> Driver<K> {
         ensures book { IfOk result (λ driver. driver.book ≡ empty_book (K.documents keeper) (K.count keeper)) }
         ensures sessions { IfOk result (λ driver. length driver.holds.items ≡ sessions) }
         ensures nothing { IfOk result (λ driver. All (λ kept. kept ≡ None) driver.holds.items) }
+        ensures seat { IfOk result (λ driver. driver.seat ≡ 0) }
         ensures many { IfOk result (λ driver. length driver.clients.items ≡ sessions) }
         ensures away { IfOk result (λ driver. (c : ℕ) (x : Numbered) → slice_get driver.clients.items c ≡ Some x → x ≡ record { client = c; now = away_lem }) }
         ensures handed { IfOk result (λ driver. driver.handed.items ≡ []) }
@@ -121,6 +124,7 @@ impl<K: Keeper> Driver<K> {
         };
         match Book::new(alloc, keeper, 0) {
             Ok(book) => Ok(Driver {
+                seat: 0,
                 book,
                 holds,
                 clients,
@@ -143,15 +147,17 @@ impl<K: Keeper> Driver<K> {
         requires fit { IsFit (makings self.old.book.journal) line }
         requires built { is_built line ≡ true }
         requires numbered { is_one_of (length self.old.holds.items) (session_of line) ≡ true }
+        requires owned { (session : ℕ) → session_of line ≡ Some session → client_owner self.old.book.drivers session ≡ self.old.seat }
         requires low { clock self.old.book.journal + moved_by line ≤ clock_end }
-        ensures does { OnOk result (Does 0 Alone number line (kept_in self.old.holds.items) self.old.book.journal self.new.book.journal (kept_in self.new.holds.items)) }
+        ensures does { OnOk result (Does self.old.seat Alone number line (kept_in self.old.holds.items) self.old.book.journal self.new.book.journal (kept_in self.new.holds.items)) }
         ensures driver { OnOk result (IsDriver self.new) }
         ensures sessions { OnOk result (length self.new.holds.items ≡ length self.old.holds.items) }
         ensures behind { OnOk result (IsBehind line self.old.book.journal self.new.book.journal) }
         ensures goes_on { OnOk result (GoesOn K.tells self.old.book self.new.book) }
+        ensures seat { OnOk result (self.new.seat ≡ self.old.seat) }
     {
         let by = By {
-            seat: 0,
+            seat: self.seat,
             line: Some(number),
         };
         match line {
@@ -220,20 +226,8 @@ impl<K: Keeper> Driver<K> {
             Line::Leave { session } => self.tell(by, session, &ClientLine::Leave),
             Line::Rejoin { session } => self.tell(by, session, &ClientLine::Rejoin),
             Line::Sync { session } => self.sync(alloc, by, session),
-            Line::Drain { session, doc } => drain_named(
-                alloc,
-                &mut self.book,
-                number,
-                session,
-                &doc,
-            ),
-            Line::Flush { session, doc } => flush_named(
-                alloc,
-                &mut self.book,
-                number,
-                session,
-                &doc,
-            ),
+            Line::Drain { session, doc } => drain_named(alloc, &mut self.book, by, session, &doc),
+            Line::Flush { session, doc } => flush_named(alloc, &mut self.book, by, session, &doc),
             Line::Hold { session, doc } => self.hold(alloc, number, session, &doc),
             Line::Finish { session } => self.finish(number, session),
             Line::Hand {
@@ -256,10 +250,12 @@ impl<K: Keeper> Driver<K> {
     ) -> Result<(), AllocError>
         requires driver { IsDriver self.old }
         requires session { session < length self.old.holds.items }
-        requires seat { by.seat ≡ 0 }
-        ensures joins { OnOk result (Turn Alone (λ look made. Joins (entry_by 0 by.line) session (number_of doc.now look) user.now track look made) self.old.book.journal self.new.book.journal) }
+        requires seat { by.seat ≡ self.old.seat }
+        requires owned { client_owner self.old.book.drivers session ≡ self.old.seat }
+        ensures joins { OnOk result (Turn Alone (λ look made. Joins (entry_by self.old.seat by.line) session (number_of doc.now look) user.now track look made) self.old.book.journal self.new.book.journal) }
         ensures driver { OnOk result (IsDriver self.new) }
         ensures holds { self.new.holds ≡ self.old.holds }
+        ensures seat { self.new.seat ≡ self.old.seat }
         ensures quiet { OnOk result (GoesQuietly session self.old.book.journal self.new.book.journal) }
         ensures rest { OnOk result (self.new.book ≡ with_journal self.old.book self.new.book.journal) }
     {
@@ -273,11 +269,13 @@ impl<K: Keeper> Driver<K> {
     fn tell(&mut self, by: By, session: u32, line: &ClientLine) -> Result<(), AllocError>
         requires driver { IsDriver self.old }
         requires session { session < length self.old.holds.items }
-        requires seat { by.seat ≡ 0 }
+        requires seat { by.seat ≡ self.old.seat }
+        requires owned { client_owner self.old.book.drivers session ≡ self.old.seat }
         requires doable { IsDoable line.now }
-        ensures does { OnOk result (self.new.book ≡ adds self.old.book 0 by.line (client_act session self.old.book.journal line.now ∷ [])) }
+        ensures does { OnOk result (self.new.book ≡ adds self.old.book self.old.seat by.line (client_act session self.old.book.journal line.now ∷ [])) }
         ensures driver { OnOk result (IsDriver self.new) }
         ensures holds { self.new.holds ≡ self.old.holds }
+        ensures seat { self.new.seat ≡ self.old.seat }
         ensures quiet { OnOk result (GoesQuietly session self.old.book.journal self.new.book.journal) }
         ensures rest { OnOk result (self.new.book ≡ with_journal self.old.book self.new.book.journal) }
     {
@@ -291,10 +289,12 @@ impl<K: Keeper> Driver<K> {
     fn sync(&mut self, alloc: Global, by: By, session: u32) -> Result<(), AllocError>
         requires driver { IsDriver self.old }
         requires session { session < length self.old.holds.items }
-        requires seat { by.seat ≡ 0 }
-        ensures syncs { OnOk result (Syncs (entry_by 0 by.line) Alone session self.old.book.journal self.new.book.journal) }
+        requires seat { by.seat ≡ self.old.seat }
+        requires owned { client_owner self.old.book.drivers session ≡ self.old.seat }
+        ensures syncs { OnOk result (Syncs (entry_by self.old.seat by.line) Alone session self.old.book.journal self.new.book.journal) }
         ensures driver { OnOk result (IsDriver self.new) }
         ensures holds { self.new.holds ≡ self.old.holds }
+        ensures seat { self.new.seat ≡ self.old.seat }
         ensures goes { OnOk result (GoesApartThenQuietly (next_token self.old.book.journal) session self.old.book.journal self.new.book.journal) }
         ensures rest { OnOk result (self.new.book ≡ with_journal self.old.book self.new.book.journal) }
     {
@@ -314,14 +314,15 @@ impl<K: Keeper> Driver<K> {
     ) -> Result<(), AllocError>
         requires driver { IsDriver self.old }
         requires session { session < length self.old.holds.items }
-        ensures holds { OnOk result (Holds (entry_by 0 (Some number)) Alone session (kept_in self.old.holds.items session) doc.now (kept_in self.old.holds.items) self.old.book.journal self.new.book.journal (kept_in self.new.holds.items)) }
+        ensures holds { OnOk result (Holds (entry_by self.old.seat (Some number)) Alone session (kept_in self.old.holds.items session) doc.now (kept_in self.old.holds.items) self.old.book.journal self.new.book.journal (kept_in self.new.holds.items)) }
         ensures driver { OnOk result (IsDriver self.new) }
         ensures sessions { OnOk result (length self.new.holds.items ≡ length self.old.holds.items) }
+        ensures seat { OnOk result (self.new.seat ≡ self.old.seat) }
         ensures apart { OnOk result (GoesApart (next_token self.old.book.journal) self.old.book.journal self.new.book.journal) }
         ensures rest { OnOk result (self.new.book ≡ with_journal self.old.book self.new.book.journal) }
     {
         let by = By {
-            seat: 0,
+            seat: self.seat,
             line: Some(number),
         };
         if is_kept(&self.holds, session) {
@@ -347,21 +348,23 @@ impl<K: Keeper> Driver<K> {
     fn finish(&mut self, number: u32, session: u32) -> Result<(), AllocError>
         requires driver { IsDriver self.old }
         requires session { session < length self.old.holds.items }
-        ensures finishes { OnOk result (Turn Alone (Finishes (entry_by 0 (Some number)) session (kept_in self.old.holds.items session)) self.old.book.journal self.new.book.journal) }
+        ensures finishes { OnOk result (Turn Alone (Finishes (entry_by self.old.seat (Some number)) session (kept_in self.old.holds.items session)) self.old.book.journal self.new.book.journal) }
         ensures gives { OnOk result (kept_in self.new.holds.items ≡ keeping session None (kept_in self.old.holds.items)) }
         ensures driver { OnOk result (IsDriver self.new) }
         ensures sessions { OnOk result (length self.new.holds.items ≡ length self.old.holds.items) }
+        ensures seat { OnOk result (self.new.seat ≡ self.old.seat) }
         ensures apart { OnOk result (GoesApart 0 self.old.book.journal self.new.book.journal) }
         ensures rest { OnOk result (self.new.book ≡ with_journal self.old.book self.new.book.journal) }
     {
         let by = By {
-            seat: 0,
+            seat: self.seat,
             line: Some(number),
         };
         let Some(prepared) = give_up(&mut self.holds, session) else {
             return self.book.decline(by, session, Why::Nothing);
         };
         let (doc, token) = (prepared.look.doc, prepared.look.token);
+        self.book.legal();
         match self.book.commit(by, prepared) {
             Ok(()) => {
                 let Ok(_) = self.book.release(by, doc, token) else {
@@ -377,10 +380,11 @@ impl<K: Keeper> Driver<K> {
     // Hands the first items of a project's history out, `n` of them, or all where there are fewer.
     fn hand(&mut self, by: By, session: u32, project: &Name, n: u32) -> Result<(), AllocError>
         requires driver { IsDriver self.old }
-        requires seat { by.seat ≡ 0 }
-        ensures hands { OnOk result (self.new.book ≡ adds self.old.book 0 by.line (hand_act session project.now n self.old.book.journal ∷ [])) }
+        requires seat { by.seat ≡ self.old.seat }
+        ensures hands { OnOk result (self.new.book ≡ adds self.old.book self.old.seat by.line (hand_act session project.now n self.old.book.journal ∷ [])) }
         ensures driver { OnOk result (IsDriver self.new) }
         ensures holds { self.new.holds ≡ self.old.holds }
+        ensures seat { self.new.seat ≡ self.old.seat }
     {
         match self.book.hand_history(by, project, n as u64) {
             Ok(mut items) => self.handed.append(&mut items),
@@ -491,18 +495,14 @@ fn send_raw<K: Keeper>(book: &mut Book<K>, by: By, raw: &RawUpdate) -> Result<()
 fn drain_named<K: Keeper>(
     alloc: Global,
     book: &mut Book<K>,
-    number: u32,
+    by: By,
     session: u32,
     name: &Name,
 ) -> Result<(), AllocError>
-    ensures drains { OnOk result (DrainsNamed (entry_by 0 (Some number)) Alone session (number_of name.now book.old.journal) book.old.journal book.new.journal) }
+    ensures drains { OnOk result (DrainsNamed (entry_by by.seat by.line) Alone session (number_of name.now book.old.journal) book.old.journal book.new.journal) }
     ensures apart { OnOk result (GoesApart (next_token book.old.journal) book.old.journal book.new.journal) }
     ensures rest { OnOk result (book.new ≡ with_journal book.old book.new.journal) }
 {
-    let by = By {
-        seat: 0,
-        line: Some(number),
-    };
     let Some(doc) = book.find(name) else {
         return book.decline(by, session, Why::NoDoc);
     };
@@ -521,18 +521,14 @@ fn drain_named<K: Keeper>(
 fn flush_named<K: Keeper>(
     alloc: Global,
     book: &mut Book<K>,
-    number: u32,
+    by: By,
     session: u32,
     name: &Name,
 ) -> Result<(), AllocError>
-    ensures flushes { OnOk result (FlushesNamed (entry_by 0 (Some number)) Alone session (number_of name.now book.old.journal) book.old.journal book.new.journal) }
+    ensures flushes { OnOk result (FlushesNamed (entry_by by.seat by.line) Alone session (number_of name.now book.old.journal) book.old.journal book.new.journal) }
     ensures apart { OnOk result (GoesApart (next_token book.old.journal) book.old.journal book.new.journal) }
     ensures goes_on { OnOk result (GoesOn K.tells book.old book.new) }
 {
-    let by = By {
-        seat: 0,
-        line: Some(number),
-    };
     let Some(doc) = book.find(name) else {
         return book.decline(by, session, Why::NoDoc);
     };

@@ -21,7 +21,6 @@ pub(crate) fn receive_all<K: Keeper>(
 ) -> Result<(), AllocError>
     requires client { IsClientOf book.old.journal client.old }
     requires owner { MayWriteFor book.old.drivers book.old.journal by.seat client.old.client }
-    requires seat { by.seat ≡ 0 }
     ensures gets { OnOk result (Gets (entry_by by.seat by.line) Alone client.old.client book.old.journal book.new.journal) }
     ensures client { OnOk result (IsClientAfter book.new.journal client.old client.new) }
     ensures quiet { OnOk result (GoesQuietly client.old.client book.old.journal book.new.journal) }

@@ -32,8 +32,7 @@ pub(crate) fn sync_client<K: Keeper>(
 ) -> Result<(), AllocError>
     requires client { IsClientOf book.old.journal client.old }
     requires owner { MayWriteFor book.old.drivers book.old.journal by.seat client.old.client }
-    requires seat { by.seat ≡ 0 }
-    ensures syncs { OnOk result (Syncs (entry_by 0 by.line) Alone client.old.client book.old.journal book.new.journal) }
+    ensures syncs { OnOk result (Syncs (entry_by by.seat by.line) Alone client.old.client book.old.journal book.new.journal) }
     ensures client { OnOk result (IsClientAfter book.new.journal client.old client.new) }
     ensures goes { OnOk result (GoesApartThenQuietly (next_token book.old.journal) client.old.client book.old.journal book.new.journal) }
     ensures rest { OnOk result (book.new ≡ with_journal book.old book.new.journal) }
@@ -55,8 +54,7 @@ fn drain_waiting<K: Keeper>(
     by: By,
     doc: u32,
 ) -> Result<(), AllocError>
-    requires { by.seat ≡ 0 }
-    ensures drains { OnOk result ((stop : Stop) × Drains (entry_by 0 by.line) Alone doc (length (waiting doc book.old.journal)) book.old.journal book.new.journal stop) }
+    ensures drains { OnOk result ((stop : Stop) × Drains (entry_by by.seat by.line) Alone doc (length (waiting doc book.old.journal)) book.old.journal book.new.journal stop) }
     ensures apart { OnOk result (GoesApart (next_token book.old.journal) book.old.journal book.new.journal) }
     ensures rest { OnOk result (book.new ≡ with_journal book.old book.new.journal) }
 {

@@ -20,9 +20,9 @@ returns-in-Done-clause-free g c = λ d. still_free None c.args.doc c.in-Done.cou
 pub returns-in-Done-clause-stay : goal.returns-in-Done-clause-stay
 returns-in-Done-clause-stay g c =
     let old = c.args.book.now.journal in let new = c.drain-end.new.book.journal in
-    same_clients (next_token old) old new (many_drained None c.args.doc c.in-Done.count old new c.in-Done.ensures.drained.0)
+    same_clients (next_token old) old new (many_drained 0 None c.args.doc c.in-Done.count old new c.in-Done.ensures.drained.0)
 
 pub returns-in-Done-clause-makings : goal.returns-in-Done-clause-makings
 returns-in-Done-clause-makings g c =
     let old = c.args.book.now.journal in let new = c.drain-end.new.book.journal in
-    same_makings (next_token old) old new (many_drained None c.args.doc c.in-Done.count old new c.in-Done.ensures.drained.0)
+    same_makings (next_token old) old new (many_drained 0 None c.args.doc c.in-Done.count old new c.in-Done.ensures.drained.0)

@@ -10,12 +10,15 @@ use Rattle.ending_rules.specs.Rounds.{joins_below}
 use Rattle.session_lines.specs.Standing.{AreBySessions, moved_by}
 use Rattle.session_lines.specs.declared.line.Line.{Line}
 use Rattle.run_rules.specs.Keeping.{Preparations, nothing_kept}
-use Rattle.run_rules.specs.Lines.{Leads, numbered}
+use Rattle.run_rules.specs.Lines.{Does, Leads, numbered}
+use Rattle.turn_rules.specs.Owning.{client_owner}
 use Rattle.turn_rules.specs.Turns.{Alone}
 use Rattle.book.specs.Shown.{Shown}
 use Rattle.book.proofs.Going.{goes_further, goes_same}
 use Rattle.session_runner.specs.Fitting.{AreBuilt, AreFit}
 use Rattle.session_runner.specs.Holding.{IsDriver, kept_in}
+use Rattle.session_runner.specs.Handing.{is_own, items_handed_by}
+use Rattle.session_runner.proofs.Clients.{own_all}
 use Rattle.session_runner.proofs.Lines.{by_parts, by_rest, empty_driver, kept_none}
 use Rattle.session_runner.proofs.driver.do_lines.Goals as goal
 
@@ -26,7 +29,8 @@ loop-line-init g c =
     let none : c.in_ok-driver.driver.book.journal ≡ [] = ap (λ (b : Shown). b.journal) new.book in
     let now = ap clock none ∙ clock-none in
     rw same (record {
-      driver = empty_driver c.in_ok-driver.driver (none, ap (λ (b : Shown). b.drivers) new.book, new.handed) new.nothing new.away (new.many ∙ sym new.sessions);
+      driver = empty_driver c.in_ok-driver.driver (none, new.handed) new.nothing new.away (new.many ∙ sym new.sessions);
+      seat = new.seat;
       goes_on = goes_same _ c.in_ok-driver.driver.book new.book;
       sessions = new.sessions;
       fit = subst (λ (ms : List Making). AreFit ms c.args.lines.items) (sym (ap makings none ∙ makings-none)) c.requires.fit;
@@ -72,6 +76,7 @@ loop-line-preserved g c =
     let count = was.count in let shorter = ap length rest in
     record {
       driver = done.driver;
+      seat = done.seat ∙ was.seat;
       goes_on = goes_further _ c.loop-line.driver.book c.do_line.new.self.book was.goes_on done.goes_on;
       sessions = done.sessions ∙ was.sessions;
       fit = subst (λ (ms : List Making). AreFit ms c.next.new.self.rest.items) (sym behind.makings_are) fit.1;
@@ -81,5 +86,18 @@ loop-line-preserved g c =
       closed = behind.closed_is ∙ was.closed;
       count = omega (arith, count, shorter);
       leads = λ last leads. was.leads last (subst (λ (ls : List Line). Leads 0 Alone (numbered c.loop-line.number ls) (kept_in c.loop-line.driver.holds.items) c.loop-line.driver.book.journal last) (sym rest)
-          (c.do_line.new.self.book.journal, kept_in c.do_line.new.self.holds.items, done.does, leads));
+          (c.do_line.new.self.book.journal, kept_in c.do_line.new.self.holds.items, subst (λ s. Does s Alone c.loop-line.number c.in-Some.line (kept_in c.loop-line.driver.holds.items) c.loop-line.driver.book.journal c.do_line.new.self.book.journal (kept_in c.do_line.new.self.holds.items)) was.seat done.does, leads));
     }
+
+pub do_line-requires-clause-owned : goal.do_line-requires-clause-owned
+do_line-requires-clause-owned g c = λ session is. ap (λ d. client_owner d session) c.loop-line.invariant.goes_on.drivers_are ∙ sym c.loop-line.invariant.seat
+
+pub returns-clause-clients : goal.returns-clause-clients
+returns-clause-clients g c =
+    let was = c.loop-line.invariant in
+    own_all c.loop-line.driver.book.drivers c.loop-line.driver.seat c.loop-line.driver.clients.items c.loop-line.driver.book.journal was.goes_on.drivers_are was.seat was.driver.clients
+
+pub returns-clause-handed : goal.returns-clause-handed
+returns-clause-handed g c =
+    let was = c.loop-line.invariant in
+    was.driver.handed ∙ ap (λ d. items_handed_by (is_own d c.loop-line.driver.seat) c.loop-line.driver.book.journal) was.goes_on.drivers_are

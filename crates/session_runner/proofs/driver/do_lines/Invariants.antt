@@ -16,6 +16,7 @@ use Rattle.session_runner.proofs.driver.do_lines.Given as goal
 abbrev pub invariant-loop-line : goal.invariant-loop-line
 invariant-loop-line g l = record {
   driver : IsDriver l.driver;
+  seat : l.driver.seat ≡ 0;
   goes_on : GoesOn g.K.Keeper.tells (empty_book (g.K.Keeper.documents l.fn.keeper) (g.K.Keeper.count l.fn.keeper)) l.driver.book;
   sessions : length l.driver.holds.items ≡ l.fn.sessions;
   fit : AreFit (makings l.driver.book.journal) l.line-iterator.rest.items;

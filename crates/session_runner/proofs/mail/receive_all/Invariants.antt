@@ -12,7 +12,7 @@ use Rattle.session_runner.proofs.mail.receive_all.Given as goal
 -- however the client gets what is left of its mail, it gets the whole so
 abbrev pub invariant-getting : goal.invariant-getting
 invariant-getting g l = record {
-  goes : (last : List Entry) → Gets (entry_by 0 l.by.line) Alone l.initial.client.client l.book.journal last → Gets (entry_by 0 l.by.line) Alone l.initial.client.client l.initial.book.journal last;
+  goes : (last : List Entry) → Gets (entry_by l.by.seat l.by.line) Alone l.initial.client.client l.book.journal last → Gets (entry_by l.by.seat l.by.line) Alone l.initial.client.client l.initial.book.journal last;
   client : IsClientAfter l.book.journal l.initial.client l.client;
   owner : MayWriteFor l.book.drivers l.book.journal l.by.seat l.client.client;
   quiet : GoesQuietly l.initial.client.client l.initial.book.journal l.book.journal;

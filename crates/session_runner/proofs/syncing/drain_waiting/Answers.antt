@@ -14,7 +14,7 @@ pub returns-then-most-eq0-clause-drains : goal.returns-then-most-eq0-clause-drai
 returns-then-most-eq0-clause-drains g c =
     let j = c.args.book.now.journal in
     let none : 0 ≡ length (waiting c.args.doc j) = let w = c.waiting-most.ensures in let z = c.if-most-eq0.true in omega (arith, w, z) in
-    (Done, subst (λ n. Drains (entry_by 0 c.args.by.line) Alone c.args.doc n j j Done) none (refl, refl))
+    (Done, subst (λ n. Drains (entry_by c.args.by.seat c.args.by.line) Alone c.args.doc n j j Done) none (refl, refl))
 
 pub returns-then-most-eq0-clause-apart : goal.returns-then-most-eq0-clause-apart
 returns-then-most-eq0-clause-apart g c = none_apart _ c.args.book.now.journal c.args.book.now.journal refl
@@ -33,10 +33,10 @@ pub returns-in-Done : goal.returns-in-Done
 returns-in-Done g c =
     let old = c.args.book.now.journal in
     let new = c.drain.new.book.journal in
-    let d = subst (λ n. Drained (entry_by n c.args.by.line) c.args.doc c.waiting-most.result old new (end.Done c.in-Done.count)) c.requires c.in-Done.ensures.drained in
+    let d = c.in-Done.ensures.drained in
     record {
-      drains = (Done, subst (λ n. Drains (entry_by 0 c.args.by.line) Alone c.args.doc n old new Done) c.waiting-most.ensures (drains_done (entry_by 0 c.args.by.line) c.args.doc c.waiting-most.result c.in-Done.count old new d));
-      apart = many_drained c.args.by.line c.args.doc c.in-Done.count old new d.0;
+      drains = (Done, subst (λ n. Drains (entry_by c.args.by.seat c.args.by.line) Alone c.args.doc n old new Done) c.waiting-most.ensures (drains_done (entry_by c.args.by.seat c.args.by.line) c.args.doc c.waiting-most.result c.in-Done.count old new d));
+      apart = many_drained c.args.by.seat c.args.by.line c.args.doc c.in-Done.count old new d.0;
       rest = c.drain.ensures.rest;
     }
 
@@ -44,9 +44,9 @@ pub returns-in-Busy : goal.returns-in-Busy
 returns-in-Busy g c =
     let old = c.args.book.now.journal in
     let new = c.drain.new.book.journal in
-    let d = subst (λ n. Drained (entry_by n c.args.by.line) c.args.doc c.waiting-most.result old new (end.Busy c.in-Busy.count c.in-Busy.busy)) c.requires c.in-Busy.ensures.drained in
+    let d = c.in-Busy.ensures.drained in
     record {
-      drains = (HeldUp c.in-Busy.busy, subst (λ n. Drains (entry_by 0 c.args.by.line) Alone c.args.doc n old new (HeldUp c.in-Busy.busy)) c.waiting-most.ensures (drains_held_up (entry_by 0 c.args.by.line) c.args.doc c.waiting-most.result c.in-Busy.count c.in-Busy.busy old new d));
-      apart = many_drained c.args.by.line c.args.doc c.in-Busy.count old new d.0;
+      drains = (HeldUp c.in-Busy.busy, subst (λ n. Drains (entry_by c.args.by.seat c.args.by.line) Alone c.args.doc n old new (HeldUp c.in-Busy.busy)) c.waiting-most.ensures (drains_held_up (entry_by c.args.by.seat c.args.by.line) c.args.doc c.waiting-most.result c.in-Busy.count c.in-Busy.busy old new d));
+      apart = many_drained c.args.by.seat c.args.by.line c.args.doc c.in-Busy.count old new d.0;
       rest = c.drain.ensures.rest;
     }

@@ -27,7 +27,7 @@ returns-in-Doc-clause-driver g c =
 pub returns-in-Doc-clause-behind : goal.returns-in-Doc-clause-behind
 returns-in-Doc-clause-behind g c =
     let old = c.args.self.now.book.journal in let new = c.make.new.book.journal in
-    on_ok_weaker c.make.result (λ is. subst (λ (l : Line). IsBehind l old new) (sym c.in-Doc.is) (behind_doc (Some c.args.number) old new (length (makings old)) c.in-Doc.doc c.in-Doc.project c.in-Doc.text c.in-Doc.v (ap (λ (b : Shown). b.journal) is))) c.make.ensures
+    on_ok_weaker c.make.result (λ is. subst (λ (l : Line). IsBehind l old new) (sym c.in-Doc.is) (behind_doc c.args.self.now.seat (Some c.args.number) old new (length (makings old)) c.in-Doc.doc c.in-Doc.project c.in-Doc.text c.in-Doc.v (ap (λ (b : Shown). b.journal) is))) c.make.ensures
 
 pub returns-in-Tick-clause-driver : goal.returns-in-Tick-clause-driver
 returns-in-Tick-clause-driver g c = on_ok_weaker c.tick.result (λ is. ticked c.args.self.now c.tick.new.book (Some c.args.number) c.in-Tick.ms c.requires.driver is) c.tick.ensures
@@ -35,7 +35,7 @@ returns-in-Tick-clause-driver g c = on_ok_weaker c.tick.result (λ is. ticked c.
 pub returns-in-Tick-clause-behind : goal.returns-in-Tick-clause-behind
 returns-in-Tick-clause-behind g c =
     let old = c.args.self.now.book.journal in let new = c.tick.new.book.journal in
-    on_ok_weaker c.tick.result (λ is. subst (λ (l : Line). IsBehind l old new) (sym c.in-Tick.is) (behind_tick (Some c.args.number) old new c.in-Tick.session c.in-Tick.ms (ap (λ (b : Shown). b.journal) is))) c.tick.ensures
+    on_ok_weaker c.tick.result (λ is. subst (λ (l : Line). IsBehind l old new) (sym c.in-Tick.is) (behind_tick c.args.self.now.seat (Some c.args.number) old new c.in-Tick.session c.in-Tick.ms (ap (λ (b : Shown). b.journal) is))) c.tick.ensures
 
 pub returns-in-Some-clause-driver : goal.returns-in-Some-clause-driver
 returns-in-Some-clause-driver g c = on_ok_weaker c.send_raw.result (λ is. sent c.args.self.now c.send_raw.new.book (Some c.args.number) (clock c.args.self.now.book.journal) _ c.requires.driver is) c.send_raw.ensures
@@ -43,7 +43,7 @@ returns-in-Some-clause-driver g c = on_ok_weaker c.send_raw.result (λ is. sent 
 pub returns-in-Some-clause-behind : goal.returns-in-Some-clause-behind
 returns-in-Some-clause-behind g c =
     let old = c.args.self.now.book.journal in let new = c.send_raw.new.book.journal in
-    on_ok_weaker c.send_raw.result (λ is. subst (λ (l : Line). IsBehind l old new) (sym c.in-Raw.is) (apart_behind _ (next_token old) old new (λ ms. refl) refl (apart_raw (Some c.args.number) old new (next_token old) (clock old) _ (ap (λ (b : Shown). b.journal) is)))) c.send_raw.ensures
+    on_ok_weaker c.send_raw.result (λ is. subst (λ (l : Line). IsBehind l old new) (sym c.in-Raw.is) (apart_behind _ (next_token old) old new (λ ms. refl) refl (apart_raw c.args.self.now.seat (Some c.args.number) old new (next_token old) (clock old) _ (ap (λ (b : Shown). b.journal) is)))) c.send_raw.ensures
 
 pub returns-in-Raw-clause-driver : goal.returns-in-Raw-clause-driver
 returns-in-Raw-clause-driver g c = on_ok_weaker c.decline.result (λ is. declined c.args.self.now c.decline.new.self (Some c.args.number) c.in-Raw.session NoDoc c.requires.driver is) c.decline.ensures.ok
@@ -52,7 +52,7 @@ pub returns-in-Raw-clause-behind : goal.returns-in-Raw-clause-behind
 returns-in-Raw-clause-behind g c =
     let old = c.args.self.now.book.journal in let new = c.decline.new.self.journal in
     on_ok_weaker c.decline.result (λ is. subst (λ (l : Line). IsBehind l old new) (sym c.in-Raw.is)
-    (apart_behind _ (next_token old) old new (λ ms. refl) refl (wrote (Some c.args.number) (next_token old) (Declined c.in-Raw.session NoDoc) old new refl (ap (λ (b : Shown). b.journal) is)))) c.decline.ensures.ok
+    (apart_behind _ (next_token old) old new (λ ms. refl) refl (wrote c.args.self.now.seat (Some c.args.number) (next_token old) (Declined c.in-Raw.session NoDoc) old new refl (ap (λ (b : Shown). b.journal) is)))) c.decline.ensures.ok
 
 pub returns-in-Drain-clause-driver : goal.returns-in-Drain-clause-driver
 returns-in-Drain-clause-driver g c = on_ok_weaker c.drain_named.result (λ g. drained c.args.self.now c.drain_named.new.book (Some c.args.number) (ap (λ (b : Shown). b.drivers) g.0) g.1 c.requires.driver) (both_ok _ _ c.drain_named.result c.drain_named.ensures.rest c.drain_named.ensures.apart)
@@ -133,20 +133,20 @@ returns-in-Sync-clause-behind g c =
 pub returns-in-Hand-clause-behind : goal.returns-in-Hand-clause-behind
 returns-in-Hand-clause-behind g c =
     let old = c.args.self.now.book.journal in let new = c.hand.new.self.book.journal in
-    on_ok_weaker c.hand.result (λ is. subst (λ (l : Line). IsBehind l old new) (sym c.in-Hand.is) (hand_behind c.in-Hand.session c.in-Hand.n c.in-Hand.project old (Some c.args.number) new (ap (λ (b : Shown). b.journal) is))) c.hand.ensures.hands
+    on_ok_weaker c.hand.result (λ is. subst (λ (l : Line). IsBehind l old new) (sym c.in-Hand.is) (hand_behind c.in-Hand.session c.in-Hand.n c.in-Hand.project old c.args.self.now.seat (Some c.args.number) new (ap (λ (b : Shown). b.journal) is))) c.hand.ensures.hands
 
 -- ---- the book goes on
 pub returns-in-Doc-clause-goes_on : goal.returns-in-Doc-clause-goes_on
-returns-in-Doc-clause-goes_on g c = on_ok_weaker c.make.result (λ is. goes_one c.args.self.now.book c.make.new.book 0 (Some c.args.number) _ is) c.make.ensures
+returns-in-Doc-clause-goes_on g c = on_ok_weaker c.make.result (λ is. goes_one c.args.self.now.book c.make.new.book c.args.self.now.seat (Some c.args.number) _ is) c.make.ensures
 
 pub returns-in-Tick-clause-goes_on : goal.returns-in-Tick-clause-goes_on
-returns-in-Tick-clause-goes_on g c = on_ok_weaker c.tick.result (λ is. goes_one c.args.self.now.book c.tick.new.book 0 (Some c.args.number) _ is) c.tick.ensures
+returns-in-Tick-clause-goes_on g c = on_ok_weaker c.tick.result (λ is. goes_one c.args.self.now.book c.tick.new.book c.args.self.now.seat (Some c.args.number) _ is) c.tick.ensures
 
 pub returns-in-Some-clause-goes_on : goal.returns-in-Some-clause-goes_on
-returns-in-Some-clause-goes_on g c = on_ok_weaker c.send_raw.result (λ is. goes_one c.args.self.now.book c.send_raw.new.book 0 (Some c.args.number) _ is) c.send_raw.ensures
+returns-in-Some-clause-goes_on g c = on_ok_weaker c.send_raw.result (λ is. goes_one c.args.self.now.book c.send_raw.new.book c.args.self.now.seat (Some c.args.number) _ is) c.send_raw.ensures
 
 pub returns-in-Raw-clause-goes_on : goal.returns-in-Raw-clause-goes_on
-returns-in-Raw-clause-goes_on g c = on_ok_weaker c.decline.result (λ is. goes_one c.args.self.now.book c.decline.new.self 0 (Some c.args.number) _ is) c.decline.ensures.ok
+returns-in-Raw-clause-goes_on g c = on_ok_weaker c.decline.result (λ is. goes_one c.args.self.now.book c.decline.new.self c.args.self.now.seat (Some c.args.number) _ is) c.decline.ensures.ok
 
 pub returns-in-Drain-clause-goes_on : goal.returns-in-Drain-clause-goes_on
 returns-in-Drain-clause-goes_on g c = on_ok_weaker c.drain_named.result (λ b. goes_rest c.args.self.now.book c.drain_named.new.book b.1.more b.0 b.1.last_is) (both_ok _ _ c.drain_named.result c.drain_named.ensures.rest c.drain_named.ensures.apart)
@@ -188,4 +188,4 @@ pub returns-in-Rejoin-clause-goes_on : goal.returns-in-Rejoin-clause-goes_on
 returns-in-Rejoin-clause-goes_on g c = on_ok_weaker c.tell-in-Rejoin.result (λ b. goes_rest c.args.self.now.book c.tell-in-Rejoin.new.self.book b.1.more b.0 b.1.last_is) (both_ok _ _ c.tell-in-Rejoin.result c.tell-in-Rejoin.ensures.rest c.tell-in-Rejoin.ensures.quiet)
 
 pub returns-in-Hand-clause-goes_on : goal.returns-in-Hand-clause-goes_on
-returns-in-Hand-clause-goes_on g c = on_ok_weaker c.hand.result (λ is. goes_one c.args.self.now.book c.hand.new.self.book 0 (Some c.args.number) _ is) c.hand.ensures.hands
+returns-in-Hand-clause-goes_on g c = on_ok_weaker c.hand.result (λ is. goes_one c.args.self.now.book c.hand.new.self.book c.args.self.now.seat (Some c.args.number) _ is) c.hand.ensures.hands

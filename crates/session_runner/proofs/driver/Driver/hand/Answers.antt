@@ -35,7 +35,7 @@ returns-in-Err-NoProject-clause-hands g c =
     let unknown : is_project p j ≡ false = subst (MayNotHand j p) c.in-Err-NoProject.field-0-is c.in-Err-NoProject.ensures.refused in
     on_ok_weaker c.decline.result
     (λ is. is ∙ ap₂ (λ (b : Shown) (s : ℕ). adds b s c.args.by.line (Declined c.args.session NoProject ∷ [])) c.in-Err-NoProject.ensures.kept c.requires.seat
-    ∙ ap (λ (a : Act). adds old 0 c.args.by.line (a ∷ [])) (sym (hand_unknown c.args.session c.args.n p j unknown)))
+    ∙ ap (λ (a : Act). adds old c.args.self.now.seat c.args.by.line (a ∷ [])) (sym (hand_unknown c.args.session c.args.n p j unknown)))
     c.decline.ensures.ok
 
 pub returns-in-Err-NoProject-clause-driver : goal.returns-in-Err-NoProject-clause-driver
