@@ -1,2 +1,2 @@
-mod Flushing
+pub mod Flushing
 pub mod FlushingAll

@@ -73,8 +73,8 @@ fn put<K: Keeper>(alloc: Global, book: &mut Book<K>, by: By, look: KeptLook) -> 
     }
 }
 
-// The document that was taken up, as it is kept.
-fn kept_of(alloc: Global, look: &KeptLook) -> Result<KeptDoc, AllocError>
+/// The document that was taken up, as it is kept: its text in lines, its version and its ranges.
+pub fn kept_of(alloc: Global, look: &KeptLook) -> Result<KeptDoc, AllocError>
     requires { IsKept look.now.text look.now.version look.now.ranges }
     ensures { IfOk result (λ kept. kept ≡ record { lines = lines_of look.now.text; version = look.now.version; ranges = look.now.ranges }) }
 {

@@ -7,13 +7,16 @@ use Rattle.run_rules.specs.Threads.{is_by}
 use Rattle.book.specs.declared.faults.AcquireFault.{AcquireFault}
 use Rattle.book.specs.declared.faults.AcquireFault.TheVariants as fault
 use Rattle.workers.specs.Draining.{DrainsSome, IsWhyNoMore, Works}
-use Rattle.workers.specs.Seats.{HoldsNoLock}
-use Rattle.workers.specs.Sweeping.{AreSwept, IfClosed, IsEachClosed, IsSweptBy}
-use Rattle.workers.specs.declared.working.WorkerEnd.{WorkerEnd}
-use Rattle.workers.specs.declared.working.WorkerEnd.TheVariants.{Closed, Memory}
-use Rattle.workers.proofs.Holding.{none_among, none_of, none_on, quiet_among, swept_quiet}
+use Rattle.seat_turns.specs.Closings.{IfClosed, IsEachClosed}
+use Rattle.seat_turns.specs.Seats.{HoldsNoLock}
+use Rattle.seat_turns.specs.declared.ending.WorkerEnd.{WorkerEnd}
+use Rattle.seat_turns.specs.declared.ending.WorkerEnd.TheVariants.{Closed, Memory}
+use Rattle.seat_turns.proofs.Growing.{closed_on, made_on}
+use Rattle.seat_turns.proofs.Holding.{none_among, quiet_among}
+use Rattle.workers.specs.Sweeping.{AreSwept, IsSweptBy}
+use Rattle.workers.proofs.Holding.{none_of, none_on, swept_quiet}
 use Rattle.workers.proofs.Works.{looked_on, works_more}
-use Rattle.workers.proofs.Sweeping.{closed_on, grown_of, made_on, swept_more}
+use Rattle.workers.proofs.Sweeping.{grown_of, swept_more}
 
 -- where this seat held no lock at the start, it holds none now, and the documents below this number are swept
 abbrev pub Sweeps : ℕ → ℕ → List Entry → ℕ → List Entry → Type 0
@@ -42,9 +45,6 @@ module _ (drivers n : ℕ) (start : List Entry) where
   sweeps_all doc seen few sweeps none d low = (sweeps none).1 d (omega (arith, few, low))
 
 -- what was closed stays so
-pub closed_among : (drivers m : ℕ) (a b : List Entry) → Among (is_by m) a b → IsEachClosed drivers a → IsEachClosed drivers b
-closed_among drivers m a b x each = closed_on drivers a b (x.0, x.1) each
-
 pub closed_drained : (drivers m doc : ℕ) (a b : List Entry) → DrainsSome m doc a b → IsEachClosed drivers a → IsEachClosed drivers b
 closed_drained drivers m doc a b x each = closed_on drivers a b (grown_of m doc x.0 a b x.1) each
 
@@ -58,10 +58,6 @@ course n m a b c is x w = looked_on n n a b c refl x (subst (λ (k : ℕ). Works
 
 pub course_swept : (n m o : ℕ) (a b c d : List Entry) → m ≡ n → o ≡ n → Among (is_by n) a b → Works m b c → Works o c d → Works n a d
 course_swept n m o a b c d is same x w v = works_more n a c d (course n m a b c is x w) (subst (λ (k : ℕ). Works k c d) same v)
-
-pub if_closed : (e : WorkerEnd) (X : Type 0) → X → IfClosed e X
-if_closed Closed X x = x
-if_closed Memory X x = tt
 
 pub swept_at : (n m drivers : ℕ) (a c d : List Entry) (e : WorkerEnd) → m ≡ n → (n ≢ 0 → Works n a c) → IfClosed e (HoldsNoLock m c → AreSwept drivers m d) → IfClosed e (n ≢ 0 → HoldsNoLock n a → AreSwept drivers n d)
 swept_at n m drivers a c d Closed is w swept = λ other none.

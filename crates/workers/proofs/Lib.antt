@@ -1,4 +1,3 @@
-pub mod Boards
 pub mod Turning
 pub mod Standing
 pub mod Taking
@@ -7,4 +6,3 @@ pub mod Holding
 pub mod Sweeping
 pub mod Works
 pub mod Courses
-pub mod Watching

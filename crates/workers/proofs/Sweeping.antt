@@ -12,55 +12,23 @@ use Rattle.journal_rules.proofs.Pushing.{closed-push, makings-push}
 use Rattle.turn_rules.specs.Draining.{DrainsOne}
 use Rattle.turn_rules.specs.Locking.{busy, busy_by}
 use Rattle.turn_rules.specs.Turns.{Among, entry_by}
-use Rattle.run_rules.specs.Threads.{DrainsOn, is_by}
+use Rattle.run_rules.specs.Threads.{is_by}
+use Rattle.run_rules.proofs.Growing.{Extends}
 use Rattle.book.specs.Calls.{refused_where, told}
 use Rattle.book.specs.declared.faults.AcquireFault.{AcquireFault}
 use Rattle.book.specs.declared.faults.AcquireFault.TheVariants as fault
 use Rattle.workers.specs.Draining.{DrainsOf, IsWhyNoMore}
-use Rattle.workers.specs.Seats.{HoldsNoLock}
-use Rattle.workers.specs.Sweeping.{IsEachClosed, IsHeldByOther, IsSweptBy}
-use Rattle.workers.proofs.Holding.{quiet_of, quiet_one, swept_quiet}
+use Rattle.seat_turns.specs.Seats.{HoldsNoLock}
+use Rattle.seat_turns.specs.Closings.{IsEachClosed}
+use Rattle.workers.specs.Sweeping.{IsHeldByOther, IsSweptBy}
+use Rattle.workers.proofs.Holding.{quiet_of, swept_quiet}
 
 abbrev is_found : {X : Type 0} → Option X → Bool
 is_found (Some x) = true
 is_found None = false
 
--- a journal that grew
-abbrev pub Grown : List Entry → List Entry → Type 0
-Grown a b = (more : List Entry) × (b ≡ a ++ more)
-
-grown_on : (a b c : List Entry) → Grown a b → Grown b c → Grown a c
-grown_on a b c x y = (x.0 ++ y.0, y.1 ∙ ap (λ (j : List Entry). j ++ y.0) x.1 ∙ append_assoc a x.0 y.0)
-
-grown_one : (seat doc : ℕ) (left last : List Entry) → DrainsOne (entry_by seat None) (Among (is_by seat)) doc left last → Grown left last
-grown_one seat doc left last x = let q = quiet_one seat (suc doc) doc left last (λ is. absurd (omega (arith, is))) x in (q.0, q.1)
-
-pub grown_of : (seat doc n : ℕ) (left last : List Entry) → DrainsOf seat doc n left last → Grown left last
+pub grown_of : (seat doc n : ℕ) (left last : List Entry) → DrainsOf seat doc n left last → Extends left last
 grown_of seat doc n left last x = let q = quiet_of seat (suc doc) doc n left last (λ is. absurd (omega (arith, is))) x in (q.0, q.1)
-
-pub grown_works : (seat n : ℕ) (left last : List Entry) → DrainsOn seat n left last → Grown left last
-grown_works seat zero left last x = (x.0, x.1)
-grown_works seat (suc n) left last x = grown_on left x.1 last (grown_one seat x.0 left x.1 x.2) (grown_works seat n x.1 last x.3)
-
-pub closed_behind : (driver : ℕ) (j more : List Entry) → is_in driver (closed j) ≡ true → is_in driver (closed (j ++ more)) ≡ true
-closed_behind driver j [] is = subst (λ (k : List Entry). is_in driver (closed k) ≡ true) (sym (append-nil j)) is
-closed_behind driver j (e ∷ es) is =
-    subst (λ (k : List Entry). is_in driver (closed k) ≡ true) (append_assoc j (e ∷ []) es)
-    (closed_behind driver (j ++ e ∷ []) es
-    (ap (is_in driver) (closed-push j e) ∙ list_any-append (λ y. y == driver) (closed j) (closed_by e.act) ∙ ap (λ (b : Bool). b || is_in driver (closed_by e.act)) is))
-
-pub closed_on : (drivers : ℕ) (a b : List Entry) → Grown a b → IsEachClosed drivers a → IsEachClosed drivers b
-closed_on drivers a b g each driver low = subst (λ (k : List Entry). is_in driver (closed k) ≡ true) (sym g.1) (closed_behind driver a g.0 (each driver low))
-
-made_behind : (d : ℕ) (j more : List Entry) → d < length (makings j) → d < length (makings (j ++ more))
-made_behind d j [] is = subst (λ (k : List Entry). d < length (makings k)) (sym (append-nil j)) is
-made_behind d j (e ∷ es) is =
-    subst (λ (k : List Entry). d < length (makings k)) (append_assoc j (e ∷ []) es)
-    (made_behind d (j ++ e ∷ []) es
-    (let n : length (makings (j ++ e ∷ [])) ≡ length (makings j) + length (making_of e.act) = ap length (makings-push j e) ∙ length-append (makings j) (making_of e.act) in omega (arith, n, is)))
-
-pub made_on : (d : ℕ) (a b : List Entry) → Grown a b → d < length (makings a) → d < length (makings b)
-made_on d a b g is = subst (λ (k : List Entry). d < length (makings k)) (sym g.1) (made_behind d a g.0 is)
 
 -- where a document is busy, and this seat holds no lock, another seat holds it
 held_by_other : (seat doc : ℕ) (j : List Entry) (b : Busy) → HoldsNoLock seat j → (l : Option Acquiring) (h x : Bool) → last_acquiring doc j ≡ l → is_held doc j ≡ h → is_expired doc j ≡ x

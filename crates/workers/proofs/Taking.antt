@@ -19,9 +19,9 @@ use Rattle.book.proofs.Fenced.{begins}
 use Rattle.book.proofs.Taken.{unreleased}
 use Rattle.dispatcher.proofs.Taking.{takes, token_taken}
 use Rattle.workers.specs.Draining.{IsWhyNoMore}
-use Rattle.workers.specs.Seats.{IsLongerBy}
+use Rattle.seat_turns.specs.Seats.{IsLongerBy}
 use Rattle.workers.specs.Taking.{IsTakenUp}
-use Rattle.workers.proofs.Turning.{longer_by_acts, longer_by_none, turn_after}
+use Rattle.seat_turns.proofs.Turning.{longer_by_acts, longer_by_none, turn_after}
 
 -- what the call on the book tells, by its answer
 pub record IsTaking (seat doc : ℕ) (old new : Shown) (r : Result Snapshot AcquireFault) : Type 0 where

@@ -1,4 +1,3 @@
-pub mod Seats
 pub mod Taking
 pub mod Draining
 pub mod Sweeping

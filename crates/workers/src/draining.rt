@@ -5,7 +5,7 @@ ghost use Rattle.run_rules.specs.Threads.{is_by};
 ghost use Rattle.turn_rules.specs.Draining.{DrainsOne};
 ghost use Rattle.turn_rules.specs.Turns.{Among, entry_by};
 ghost use Rattle.workers.specs.Draining.{DrainsSome, IsWhyNoMore};
-ghost use Rattle.workers.specs.Seats.{IsIdle, IsSameSeat};
+ghost use Rattle.seat_turns.specs.Seats.{IsIdle, IsSameSeat};
 
 use crate::gate::Gate;
 use crate::settling::{settle, take_up};

@@ -5,9 +5,8 @@
 mod draining;
 mod gate;
 mod settling;
-mod turns;
-mod watch;
 mod working;
 
 pub use gate::{Gate, NoGate};
-pub use working::{WorkerDone, WorkerEnd, work};
+pub use seat_turns::WorkerEnd;
+pub use working::{WorkerDone, work};

@@ -10,16 +10,16 @@ ghost use Rattle.turn_rules.specs.Draining.{IsTakenOver, Settles, TakesUp};
 ghost use Rattle.turn_rules.specs.Locking.{staleness};
 ghost use Rattle.turn_rules.specs.Turns.{Alone, Among, Turn, entry_by};
 ghost use Rattle.workers.specs.Draining.{IsWhyNoMore};
-ghost use Rattle.workers.specs.Seats.{IsIdle, IsSameSeat};
+ghost use Rattle.seat_turns.specs.Seats.{IsIdle, IsSameSeat};
 ghost use Rattle.workers.specs.Taking.{EndsUpdate, IsTakenUp};
 
 use crate::gate::Gate;
-use crate::turns::{give, take};
 use board::{Board, Seat};
 use book::{AcquireFault, Book, By, CommitFault, Prepared};
 use dup_check::{Decision, Snapshot, decide};
 use journal_entries::Cause;
 use keeper::Keeper;
+use seat_turns::{give, take};
 use std::alloc::{AllocError, Global};
 use std::sync::Wait;
 

@@ -1,34 +1,21 @@
 //! What a worker does from its start to its end.
 
-ghost use Rattle.std.specs.Prelude.{◌≡◌, ◌≢◌, ℕ, false, length};
-ghost use Rattle.journal_rules.specs.Documents.{makings};
-ghost use Rattle.run_rules.specs.Threads.{is_by};
-ghost use Rattle.turn_rules.specs.Turns.{Among};
+ghost use Rattle.std.specs.Prelude.{◌≡◌, ◌≢◌};
+ghost use Rattle.seat_turns.specs.Closings.{IfClosed, IsEachClosed};
+ghost use Rattle.seat_turns.specs.Seats.{HoldsNoLock, IsAtRest, IsIdle, IsSameSeat};
 ghost use Rattle.workers.specs.Draining.{Works};
-ghost use Rattle.workers.specs.Seats.{HoldsNoLock, IsAtRest, IsIdle, IsSameSeat};
-ghost use Rattle.workers.specs.Sweeping.{AreSwept, IfClosed, IsEachClosed, LastPopWasEmpty};
+ghost use Rattle.workers.specs.Sweeping.{AreSwept, LastPopWasEmpty};
 
 use crate::draining::drain;
 use crate::gate::Gate;
-use crate::turns::{give, sit_down, take};
-use crate::watch::{Watch, look_closed};
 use board::{Board, Seat};
 use book::{AcquireFault, Book};
 use keeper::Keeper;
+use seat_turns::{Watch, WorkerEnd, count_docs, look_closed, sit_down};
 use std::alloc::Global;
 use std::sync::Wait;
 use std::thread;
 use wake_queue::{QueuePast, WakePass, WakeQueue};
-
-/// How a worker ended.
-#[derive(Clone, Copy, Debug, PartialEq, Eq)]
-pub enum WorkerEnd {
-    /// Each driver has closed, the last pop found no wake, and each document was swept: nothing waited on
-    /// it, or another seat held it.
-    Closed,
-    /// Memory was wanting to acquire a document's lock. What was drained before stands.
-    Memory,
-}
 
 /// A worker that is done, with the seat and the pass that it was given.
 #[derive(Drop)]
@@ -155,18 +142,4 @@ fn sweep<K: Keeper, G: Gate, R: Wait>(
         doc += 1;
     }
     unreachable!()
-}
-
-// The turn that counts the documents.
-fn count_docs<K: Keeper, R: Wait>(rt: &R, board: &Board<Book<K>>, seat: &mut Seat<Book<K>>) -> u32
-    requires idle { IsIdle board.now seat.old }
-    ensures idle { IsIdle board.now seat.new }
-    ensures same { IsSameSeat seat.old seat.new }
-    ensures among { Among (is_by seat.old.view.number) seat.old.view.seen seat.new.view.seen }
-    ensures docs { result ≡ length (makings seat.new.view.seen) }
-{
-    let book = take(rt, board, seat);
-    let docs = book.docs();
-    give(board, seat, book);
-    docs
 }

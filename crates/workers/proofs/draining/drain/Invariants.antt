@@ -1,7 +1,7 @@
 use Rattle.std.proofs.Common.{List}
 use Rattle.journal_entries.specs.declared.act.Entry.{Entry}
 use Rattle.workers.specs.Draining.{DrainsSome}
-use Rattle.workers.specs.Seats.{IsIdle, IsSameSeat}
+use Rattle.seat_turns.specs.Seats.{IsIdle, IsSameSeat}
 use Rattle.workers.proofs.draining.drain.Given as goal
 
 -- however it goes on from here, it has gone on so from the start

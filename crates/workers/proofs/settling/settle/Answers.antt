@@ -1,7 +1,8 @@
 use Rattle.std.proofs.Common.{ℕ, sym, ◌∙◌, subst}
 use Rattle.workers.specs.Taking.{IsTakenUp}
 use Rattle.workers.proofs.Standing.{taken_among}
-use Rattle.workers.proofs.Turning.{longer_at, longer_by_settling, settles_at}
+use Rattle.seat_turns.proofs.Turning.{longer_at}
+use Rattle.workers.proofs.Turning.{longer_by_settling, settles_at}
 use Rattle.workers.proofs.settling.settle.Goals as goal
 
 pub finish-requires-clause-taken : goal.finish-requires-clause-taken

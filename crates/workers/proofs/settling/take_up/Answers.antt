@@ -1,6 +1,6 @@
 use Rattle.std.proofs.Common.{sym, ◌∙◌}
 use Rattle.workers.proofs.Taking.{longer_by_taking, taken_at, takes_at}
-use Rattle.workers.proofs.Turning.{longer_at}
+use Rattle.seat_turns.proofs.Turning.{longer_at}
 use Rattle.workers.proofs.settling.take_up.Goals as goal
 
 pub give-requires-clause-own : goal.give-requires-clause-own

@@ -1,5 +1,6 @@
 use Rattle.std.proofs.Common.{◌∙◌, arith}
-use Rattle.workers.proofs.Courses.{closed_among, closed_drained, sweeps_all, sweeps_among, sweeps_one}
+use Rattle.seat_turns.proofs.Growing.{closed_among}
+use Rattle.workers.proofs.Courses.{closed_drained, sweeps_all, sweeps_among, sweeps_one}
 use Rattle.workers.proofs.Works.{drained_on, looked_on, works_none}
 use Rattle.workers.proofs.working.sweep.Goals as goal
 

@@ -1,8 +1,8 @@
 use Rattle.std.proofs.Common.{List}
 use Rattle.journal_entries.specs.declared.act.Entry.{Entry}
 use Rattle.workers.specs.Draining.{Works}
-use Rattle.workers.specs.Seats.{IsIdle, IsSameSeat}
-use Rattle.workers.specs.Sweeping.{IsEachClosed}
+use Rattle.seat_turns.specs.Seats.{IsIdle, IsSameSeat}
+use Rattle.seat_turns.specs.Closings.{IsEachClosed}
 use Rattle.workers.proofs.Courses.{Sweeps}
 use Rattle.workers.proofs.working.sweep.Given as goal
 

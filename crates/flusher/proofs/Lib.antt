@@ -1,0 +1,5 @@
+pub mod Taking
+pub mod Ends
+pub mod Flushes
+pub mod Holding
+pub mod Visiting

@@ -1,0 +1,4 @@
+pub mod Taking
+pub mod Putting
+pub mod Flushing
+pub mod Visiting
