@@ -1,11 +1,11 @@
-//! A takeover with two holders, on a book alone.
+//! A takeover with two holders, and history that is handed out, on a book alone.
 
 ghost use Rattle.std.specs.Prelude.{◌≡◌, ◌≢◌, ◌∷◌, [], IfOk, OnOk};
 ghost use Rattle.ot_op.specs.declared.comp.Comp.TheVariants.{Ins};
 ghost use Rattle.dup_check.specs.declared.snapshot.Snapshot.{Snapshot};
 ghost use Rattle.book.specs.Looking.{IsDecided, IsOf};
 
-use book::{AcquireFault, Book, By, CommitFault, Prepared, RawUpdate};
+use book::{AcquireFault, Book, By, CommitFault, HandFault, Prepared, RawUpdate};
 use dup_check::decide;
 use expiring_lock::{Busy, Stale};
 use journal_entries::{Act, Outcome, Sources};
@@ -221,5 +221,49 @@ fn an_expired_holder_commits_nothing(rt: HostRuntime) -> Result<(), Fail> {
     assert!(rt; busy.token == 1 && busy.until == 30_000);
     assert!(rt; more == Some(false) && is_applied(&book));
     assert!(rt; stale == Some(Stale::Other(2)));
+    Ok(())
+}
+
+// A book in which the update was applied to the document.
+fn applied(alloc: Global) -> Result<Book<SureKeeper>, Fail> {
+    let mut book = begun(alloc)?;
+    let prepared = prepared(alloc, &mut book, 0)?;
+    let Ok(()) = book.commit(by(0), prepared) else {
+        return Err(Fail::new("a token that doesn't stand"));
+    };
+    Ok(book)
+}
+
+// How many items of the only project were handed out, and how many are left.
+fn counts(book: &Book<SureKeeper>) -> Option<(u64, u64)> {
+    if book.projects() != 1 {
+        return None;
+    }
+    Some((book.history_handed(0), book.history_left(0)))
+}
+
+#[test]
+fn history_is_handed_out_once(rt: HostRuntime) -> Result<(), Fail> {
+    let alloc = rt.alloc();
+    let mut book = applied(alloc)?;
+    let project = name(alloc, "p")?;
+    assert_eq!(rt; counts(&book), Some((0, 1)));
+    let unknown = book.hand_history(by(0), &name(alloc, "q")?, 1);
+    assert!(rt; matches!(unknown, Err(HandFault::NoProject)));
+    // How many are asked for, how many come, how many came so far, and how many are left.
+    for (n, count, handed, left) in [(0, 0, 0, 1), (5, 1, 1, 0), (5, 0, 1, 0)] {
+        let items = book.hand_history(by(0), &project, n)?;
+        assert_eq!(rt; items.len(), count);
+        assert_eq!(rt; counts(&book), Some((handed, left)));
+        for item in &items {
+            assert_eq!(rt;
+                (item.doc, item.v, item.ms, item.length_before),
+                (0, 0, 0, 3)
+            );
+            assert_eq!(rt; item.user.as_str(), "u");
+            assert_eq!(rt; item.op.comps(), insert(alloc)?.comps());
+        }
+    }
+    assert_eq!(rt; book.journal().len(), 7);
     Ok(())
 }
