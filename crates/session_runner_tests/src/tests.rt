@@ -14,11 +14,10 @@ use ot_units::Name;
 use script_cases::{Ran, check_cases};
 use source_sink::INPUT_LIMIT;
 use std::alloc::Global;
-use std::process::Abort;
 use std::test::Fail;
 
 // Each case of a table, over a keeper that doesn't fail.
-fn check_table(rt: &impl Abort, alloc: Global, table: &str) -> Result<(), Fail> {
+fn check_table(alloc: Global, table: &str) -> Result<(), Fail> {
     check_cases(
         rt,
         alloc,
@@ -29,37 +28,37 @@ fn check_table(rt: &impl Abort, alloc: Global, table: &str) -> Result<(), Fail> 
 
 #[test]
 fn transforms_operations(rt: HostRuntime) -> Result<(), Fail> {
-    check_table(&rt, rt.alloc(), operation_rows())
+    check_table(rt.alloc(), operation_rows())
 }
 
 #[test]
 fn tracks_changes(rt: HostRuntime) -> Result<(), Fail> {
-    check_table(&rt, rt.alloc(), range_rows())
+    check_table(rt.alloc(), range_rows())
 }
 
 #[test]
 fn tells_clients_what_others_do(rt: HostRuntime) -> Result<(), Fail> {
-    check_table(&rt, rt.alloc(), client_rows())
+    check_table(rt.alloc(), client_rows())
 }
 
 #[test]
 fn keeps_locks(rt: HostRuntime) -> Result<(), Fail> {
-    check_table(&rt, rt.alloc(), lock_rows())
+    check_table(rt.alloc(), lock_rows())
 }
 
 #[test]
 fn refuses_lines_and_words(rt: HostRuntime) -> Result<(), Fail> {
-    check_table(&rt, rt.alloc(), refused_rows())
+    check_table(rt.alloc(), refused_rows())
 }
 
 #[test]
 fn puts_documents_into_the_keeper(rt: HostRuntime) -> Result<(), Fail> {
-    check_table(&rt, rt.alloc(), keeper_rows())
+    check_table(rt.alloc(), keeper_rows())
 }
 
 #[test]
 fn hands_history_out(rt: HostRuntime) -> Result<(), Fail> {
-    check_table(&rt, rt.alloc(), history_rows())
+    check_table(rt.alloc(), history_rows())
 }
 
 // Each case of a table, over a keeper whose first put fails.
@@ -72,7 +71,7 @@ fn run_forgetting(alloc: Global, words: &[String], input: &[u8]) -> Result<Ran, 
 #[test]
 fn tells_of_flushes_that_fail(rt: HostRuntime) -> Result<(), Fail> {
     let alloc = rt.alloc();
-    check_cases(&rt, alloc, failing_keeper_rows(), |words, input| {
+    check_cases(alloc, failing_keeper_rows(), |words, input| {
         run_forgetting(alloc, words, input)
     })
 }
