@@ -18,12 +18,7 @@ use std::test::Fail;
 
 // Each case of a table, over a keeper that doesn't fail.
 fn check_table(alloc: Global, table: &str) -> Result<(), Fail> {
-    check_cases(
-        rt,
-        alloc,
-        table,
-        |words, input| run_surely(alloc, words, input),
-    )
+    check_cases(alloc, table, |words, input| run_surely(alloc, words, input))
 }
 
 #[test]
