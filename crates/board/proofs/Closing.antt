@@ -6,6 +6,7 @@ use Rattle.std.specs.Prelude.{if◌then◌else◌}
 use Rattle.atomic_table.specs.Table.{opening, Final, Seen}
 use Rattle.atomic_table.proofs.Lists.{set_else}
 use Rattle.journal_entries.specs.declared.act.Entry.{Entry}
+use Rattle.board.specs.declared.view.Start.{Start}
 use Rattle.board.specs.declared.view.View.{View}
 use Rattle.board.specs.Views.{At, made_by, Begins, SawAll, opened, spent, one, alive}
 use Rattle.board.specs.Rule.{Fits, IsHome, IsOut, IsRuled}
@@ -30,7 +31,7 @@ two_live views i j v w ei ej lv lw apart =
     let z : one spent ≡ 0 = refl in
     omega (arith, s, h, r, z)
 
-module _ {B : Type 0} (journal : B → List Entry) (drivers start : B → ℕ) where
+module _ {B : Type 0} (journal : B → List Entry) (drivers : B → ℕ) (start : B → Start) where
   pub opens : (value : B) → All (λ (e : Entry). e.seat ≡ 0) (journal value) → IsRuled journal drivers start (opening (2 * length (journal value) ∷ []) (Some value ∷ []) (opened (journal value) (drivers value) (start value)))
   opens value all =
       let log = journal value in

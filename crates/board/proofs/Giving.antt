@@ -5,6 +5,7 @@ use Rattle.std.specs.Option.{unwrap_or}
 use Rattle.std.proofs.lemmas.List.Elements.{All-append}
 use Rattle.atomic_table.specs.Table.{State, Me, Allows, gives}
 use Rattle.journal_entries.specs.declared.act.Entry.{Entry}
+use Rattle.board.specs.declared.view.Start.{Start}
 use Rattle.board.specs.declared.view.View.{View}
 use Rattle.board.specs.Views.{SawAll, At, gave}
 use Rattle.board.specs.Rule.{Fits, IsHome, IsOut, IsRuled, Gives}
@@ -12,7 +13,7 @@ use Rattle.board.specs.Turns.{Extends}
 use Rattle.board.proofs.Views.{each_set, apart_set, unjoined_set, tally_set, off, not_true, IsBadge}
 use Rattle.board.proofs.Entries.{made_by-others, begins_longer, all_map, all_both}
 
-module _ {B : Type 0} (journal : B → List Entry) (drivers start : B → ℕ) where
+module _ {B : Type 0} (journal : B → List Entry) (drivers : B → ℕ) (start : B → Start) where
   abbrev slot_value : List (ℕ × Option B) → B → B
   slot_value [] d = d
   slot_value (x ∷ xs) d = unwrap_or x.1 d
@@ -21,7 +22,7 @@ module _ {B : Type 0} (journal : B → List Entry) (drivers start : B → ℕ) w
   abbrev given : State (Option B) View → ℕ → View → B → State (Option B) View
   given s id v value = record { words = set s.words 0 (2 * length (journal value)); homes = set s.homes 0 (some (Some value)); views = set s.views id (gave v (journal value)) }
 
-  fits_other : (log own : List Entry) (count d t n : ℕ) (u : View) → u.number ≢ n → All (λ (e : Entry). e.seat ≡ n) own → (u.number ≡ 0 → All (λ (x : ℕ × List Entry). x.0 ≢ n) u.joined) → Fits log count d t u → Fits (log ++ own) count d t u
+  fits_other : (log own : List Entry) (count d : ℕ) (t : Start) (n : ℕ) (u : View) → u.number ≢ n → All (λ (e : Entry). e.seat ≡ n) own → (u.number ≡ 0 → All (λ (x : ℕ × List Entry). x.0 ≢ n) u.joined) → Fits log count d t u → Fits (log ++ own) count d t u
   fits_other log own count d t n u apart all joined f = record {
     seen_is = begins_longer _ _ _ f.seen_is;
     made_is = made_by-others u.number n log own apart all ∙ f.made_is;
@@ -35,7 +36,7 @@ module _ {B : Type 0} (journal : B → List Entry) (drivers start : B → ℕ) w
     joined_differ = f.joined_differ;
   }
 
-  fits_own : (log own : List Entry) (count d t : ℕ) (v : View) (whole : List Entry) → whole ≡ log ++ own → All (λ (e : Entry). e.seat ≡ v.number) own → (v.number ≡ 0 → All (λ (x : ℕ × List Entry). x.0 ≢ v.number) v.joined) → Fits log count d t v → Fits whole count d t (gave v whole)
+  fits_own : (log own : List Entry) (count d : ℕ) (t : Start) (v : View) (whole : List Entry) → whole ≡ log ++ own → All (λ (e : Entry). e.seat ≡ v.number) own → (v.number ≡ 0 → All (λ (x : ℕ × List Entry). x.0 ≢ v.number) v.joined) → Fits log count d t v → Fits whole count d t (gave v whole)
   fits_own log own count d t v whole is all joined f = record {
     seen_is = ([], sym (append-nil whole));
     made_is = refl;

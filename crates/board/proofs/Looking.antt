@@ -2,13 +2,14 @@
 use Rattle.std.proofs.Common.{◌≡◌, ◌⊎◌, ℕ, ◌%◌, List, [], ◌∷◌, set, true, false, Option, refl, sym, ◌∙◌, subst, inl, inr, ⊎_elim, arith, get_or}
 use Rattle.atomic_table.specs.Table.{State, Me, Allows, keeps}
 use Rattle.journal_entries.specs.declared.act.Entry.{Entry}
+use Rattle.board.specs.declared.view.Start.{Start}
 use Rattle.board.specs.declared.view.View.{View}
 use Rattle.board.specs.Views.{At, saw}
 use Rattle.board.specs.Rule.{Fits, IsHome, IsOut, IsRuled, Looks}
 use Rattle.board.proofs.Views.{each_set, apart_set, unjoined_set, tally_set, off, still}
 
-module _ {B : Type 0} (journal : B → List Entry) (drivers start : B → ℕ) where
-  pub fits_saw : (log : List Entry) (count d t : ℕ) (v : View) (n : ℕ) → Fits log count d t v → Fits log count d t (saw v n)
+module _ {B : Type 0} (journal : B → List Entry) (drivers : B → ℕ) (start : B → Start) where
+  pub fits_saw : (log : List Entry) (count d : ℕ) (t : Start) (v : View) (n : ℕ) → Fits log count d t v → Fits log count d t (saw v n)
   fits_saw log count d t v n f =
       record { seen_is = f.seen_is; made_is = f.made_is; number_is = f.number_is; drivers_is = f.drivers_is; start_is = f.start_is; count_is = f.count_is; own_is = f.own_is; joined_is = f.joined_is; joined_below = f.joined_below; joined_differ = f.joined_differ }
 
@@ -19,7 +20,7 @@ module _ {B : Type 0} (journal : B → List Entry) (drivers start : B → ℕ) w
   pub one_word : (words : List ℕ) (x : ℕ) → words ≡ x ∷ [] → set words 0 (get_or words 0 0) ≡ x ∷ []
   one_word words x e = subst (λ (ws : List ℕ). set ws 0 (get_or ws 0 0) ≡ x ∷ []) (sym e) refl
 
-  pub turn_saw : (s : State (Option B) View) (id : ℕ) (v : View) (n d t : ℕ) (log : List Entry) → At s.views id v
+  pub turn_saw : (s : State (Option B) View) (id : ℕ) (v : View) (n d : ℕ) (t : Start) (log : List Entry) → At s.views id v
       → IsHome journal drivers start log d t s ⊎ IsOut journal drivers start log s
       → IsHome journal drivers start log d t (after_look s id v n) ⊎ IsOut journal drivers start log (after_look s id v n)
   turn_saw s id v n d t log at turn =
@@ -48,7 +49,7 @@ module _ {B : Type 0} (journal : B → List Entry) (drivers start : B → ℕ) w
       turn
 
   -- a seat that holds the turn finds an odd word
-  pub odd_turn : (s : State (Option B) View) (id : ℕ) (v : View) (d t : ℕ) (log : List Entry) → At s.views id v
+  pub odd_turn : (s : State (Option B) View) (id : ℕ) (v : View) (d : ℕ) (t : Start) (log : List Entry) → At s.views id v
       → IsHome journal drivers start log d t s ⊎ IsOut journal drivers start log s → v.holds ≡ true → get_or s.words 0 0 % 2 ≡ 1
   odd_turn s id v d t log at turn holds =
       ⊎_elim (λ (h : IsHome journal drivers start log d t s). absurd (off (sym (h.none_holds id v at) ∙ holds)))

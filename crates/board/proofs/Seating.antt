@@ -7,6 +7,7 @@ use Rattle.std.proofs.lemmas.List.Quantifiers.{all_pairs_push}
 use Rattle.atomic_table.specs.Table.{State, Splits, Joins}
 use Rattle.atomic_table.proofs.Lists.{at_set, at_longer, set_else}
 use Rattle.journal_entries.specs.declared.act.Entry.{Entry}
+use Rattle.board.specs.declared.view.Start.{Start}
 use Rattle.board.specs.declared.view.View.{View}
 use Rattle.board.specs.Views.{At, made_by, SawAll, counted, newcomer, taken_in, spent, one, alive}
 use Rattle.board.specs.Rule.{Fits, IsHome, IsOut, IsRuled}
@@ -23,12 +24,12 @@ each_snoc : (P : ℕ → View → Type 0) (l : List View) (a : View) → P (leng
 each_snoc P l a mine others j u e =
     ⊎_elim (λ t. others j u t) (λ t. subst (λ (y : ℕ × View). P y.0 y.1) (λ i. (sym t.0 i, t.1 i)) mine) (snoc_here l a j u e)
 
-module _ {B : Type 0} (journal : B → List Entry) (drivers start : B → ℕ) where
+module _ {B : Type 0} (journal : B → List Entry) (drivers : B → ℕ) (start : B → Start) where
   -- the state after a seat was made
   abbrev split : State (Option B) View → ℕ → View → State (Option B) View
   split s id v = record { words = s.words; homes = s.homes; views = set s.views id (counted v) ++ newcomer v ∷ [] }
 
-  turn_split : (s : State (Option B) View) (id : ℕ) (v : View) (d t : ℕ) (log : List Entry) → At s.views id v
+  turn_split : (s : State (Option B) View) (id : ℕ) (v : View) (d : ℕ) (t : Start) (log : List Entry) → At s.views id v
       → IsHome journal drivers start log d t s ⊎ IsOut journal drivers start log s
       → IsHome journal drivers start log d t (split s id v) ⊎ IsOut journal drivers start log (split s id v)
   turn_split s id v d t log at turn =
@@ -154,7 +155,7 @@ module _ {B : Type 0} (journal : B → List Entry) (drivers start : B → ℕ) w
   abbrev joined : State (Option B) View → ℕ → View → ℕ → View → State (Option B) View
   joined s id v other w = record { words = s.words; homes = s.homes; views = set (set s.views id (taken_in v w)) other spent }
 
-  turn_joined : (s : State (Option B) View) (id : ℕ) (v : View) (other : ℕ) (w : View) (d t : ℕ) (log : List Entry) → At s.views id v → other ≢ id → At s.views other w → w.holds ≡ false
+  turn_joined : (s : State (Option B) View) (id : ℕ) (v : View) (other : ℕ) (w : View) (d : ℕ) (t : Start) (log : List Entry) → At s.views id v → other ≢ id → At s.views other w → w.holds ≡ false
       → Rattle.board.specs.Views.Begins w.seen log
       → IsHome journal drivers start log d t s ⊎ IsOut journal drivers start log s
       → IsHome journal drivers start log d t (joined s id v other w) ⊎ IsOut journal drivers start log (joined s id v other w)

@@ -8,17 +8,18 @@ use lib.ListN.{get_elem?}
 use Rattle.std.specs.Prelude.{MatchBool}
 use Rattle.atomic_table.specs.Table.{State, Me, Act, Allows, Valid, keeps, takes, stepped, carried_after}
 use Rattle.journal_entries.specs.declared.act.Entry.{Entry}
+use Rattle.board.specs.declared.view.Start.{Start}
 use Rattle.board.specs.declared.view.View.{View}
 use Rattle.board.specs.Views.{SawAll, At, made_by, saw, took}
 use Rattle.board.specs.Rule.{Fits, IsHome, IsOut, IsRuled, Wins, Tries}
 use Rattle.board.proofs.Views.{each_set, apart_set, unjoined_set, tally_set, off, set_there, IsBadge}
 use Rattle.board.proofs.Looking.{ruled_saw}
 
-module _ {B : Type 0} (journal : B → List Entry) (drivers start : B → ℕ) where
+module _ {B : Type 0} (journal : B → List Entry) (drivers : B → ℕ) (start : B → Start) where
   first_word : (words : List ℕ) (x : ℕ) → words ≡ x ∷ [] → get_or words 0 0 ≡ x
   first_word words x e = ap (λ (ws : List ℕ). get_or ws 0 0) e
 
-  fits_took : (log : List Entry) (count d t : ℕ) (v : View) (seen : List Entry) → seen ≡ log → Fits log count d t v → Fits log count d t (took v seen)
+  fits_took : (log : List Entry) (count d : ℕ) (t : Start) (v : View) (seen : List Entry) → seen ≡ log → Fits log count d t v → Fits log count d t (took v seen)
   fits_took log count d t v seen e f =
       record { seen_is = ([], e'); made_is = f.made_is; number_is = f.number_is; drivers_is = f.drivers_is; start_is = f.start_is; count_is = f.count_is; own_is = λ n. ap (made_by v.number) e ∙ f.made_is; joined_is = f.joined_is; joined_below = f.joined_below; joined_differ = f.joined_differ }
     where

@@ -4,6 +4,7 @@ use Rattle.std.specs.List.{AllPairs}
 use mathlib.Core.Option.{some, none}
 use Rattle.atomic_table.specs.Table.{State, Me}
 use Rattle.journal_entries.specs.declared.act.Entry.{Entry}
+use Rattle.board.specs.declared.view.Start.{Start}
 use Rattle.board.specs.declared.view.View.{View}
 use Rattle.board.specs.Views.{At, Begins, SawAll, made_by, alive, saw, took, gave}
 
@@ -12,7 +13,7 @@ abbrev pub Differ : List (ℕ × List Entry) → Type 0
 Differ joined = AllPairs (λ x y. x.0 ≢ y.0) joined
 
 -- what one live view knows of the journal and of the seats
-pub record Fits (log : List Entry) (count drivers start : ℕ) (v : View) : Type 0 where
+pub record Fits (log : List Entry) (count drivers : ℕ) (start : Start) (v : View) : Type 0 where
   pub seen_is : Begins v.seen log
   pub made_is : made_by v.number log ≡ v.made
   pub number_is : v.number < count
@@ -24,9 +25,9 @@ pub record Fits (log : List Entry) (count drivers start : ℕ) (v : View) : Type
   pub joined_below : v.number ≡ 0 → All (λ x. x.0 < count) v.joined
   pub joined_differ : v.number ≡ 0 → Differ v.joined
 
-module _ {B : Type 0} (journal : B → List Entry) (drivers start : B → ℕ) where
+module _ {B : Type 0} (journal : B → List Entry) (drivers : B → ℕ) (start : B → Start) where
   -- nobody holds the turn, and the value is in the slot
-  pub record IsHome (log : List Entry) (d t : ℕ) (s : State (Option B) View) : Type 0 where
+  pub record IsHome (log : List Entry) (d : ℕ) (t : Start) (s : State (Option B) View) : Type 0 where
     pub value : B
     pub words_is : s.words ≡ (2 * length log) ∷ []
     pub homes_is : s.homes ≡ some (Some value) ∷ []
@@ -52,7 +53,7 @@ module _ {B : Type 0} (journal : B → List Entry) (drivers start : B → ℕ) w
     pub log : List Entry
     pub count : ℕ
     pub d : ℕ
-    pub t : ℕ
+    pub t : Start
     pub turn : IsHome log d t s ⊎ IsOut log s
     pub fits : (k : ℕ) (v : View) → At s.views k v → v.live ≡ true → Fits log count d t v
     -- numbers of live seats differ, also from those that were joined

@@ -3,6 +3,7 @@ use Rattle.std.specs.Prelude.{◌≡◌, ◌≢◌, ℕ, ◌%◌, ◌<◌, true,
 use Rattle.atomic_table.specs.Table.{Me}
 use Rattle.atomic_table.specs.Seated.{TableId}
 use Rattle.journal_entries.specs.declared.act.Entry.{Entry}
+use Rattle.board.specs.declared.view.Start.{Start}
 use Rattle.board.specs.declared.view.View.{View}
 use Rattle.board.specs.declared.held.Held.{Held}
 use Rattle.board.specs.Views.{Begins, SawAll, made_by, saw, with_found}
@@ -28,11 +29,11 @@ pub record Finds (v w : View) (h : Held) : Type 0 where
   pub even : h.loaded % 2 ≡ 0 → (h.found ≢ h.loaded) × (w ≡ saw (saw v h.loaded) h.found)
 
 -- a turn was taken, after one load
-abbrev pub Takes : {B : Type 0} → (B → List Entry) → (B → ℕ) → (B → ℕ) → View → View → B → Type 0
+abbrev pub Takes : {B : Type 0} → (B → List Entry) → (B → ℕ) → (B → Start) → View → View → B → Type 0
 Takes journal drivers start v w value = (word : ℕ) × Wins journal drivers start (saw v word) w value
 
 -- a turn was taken, after some words
-abbrev pub TakesLate : {B : Type 0} → (B → List Entry) → (B → ℕ) → (B → ℕ) → View → View → B → Type 0
+abbrev pub TakesLate : {B : Type 0} → (B → List Entry) → (B → ℕ) → (B → Start) → View → View → B → Type 0
 TakesLate journal drivers start v w value = (words : List ℕ) × Wins journal drivers start (with_found v words) w value
 
 -- the journal is longer by entries of this seat alone
@@ -40,7 +41,7 @@ abbrev pub Extends : {B : Type 0} → (B → List Entry) → View → B → Type
 Extends journal v value = (own : List Entry) × (journal value ≡ v.seen ++ own) × All (λ e. e.seat ≡ v.number) own
 
 -- what seat 0 knows of the value of a board that was closed
-pub record Ends {B : Type 0} (journal : B → List Entry) (drivers start : B → ℕ) (v : View) (value : B) : Type 0 where
+pub record Ends {B : Type 0} (journal : B → List Entry) (drivers : B → ℕ) (start : B → Start) (v : View) (value : B) : Type 0 where
   pub seen_is : Begins v.seen (journal value)
   pub made_is : made_by v.number (journal value) ≡ v.made
   pub drivers_is : drivers value ≡ v.drivers

@@ -3,6 +3,7 @@ use Rattle.std.specs.Prelude.{◌≡◌, ℕ, ◌+◌, ◌==◌, true, false, Li
 use mathlib.Core.Option.{some}
 use lib.ListN.{get_elem?}
 use Rattle.journal_entries.specs.declared.act.Entry.{Entry}
+use Rattle.board.specs.declared.view.Start.{Start}
 use Rattle.board.specs.declared.view.View.{View}
 
 -- the entries that bear a seat's number
@@ -18,12 +19,12 @@ abbrev pub SawAll : List Entry → ℕ × List Entry → Type 0
 SawAll log x = Begins x.1 log × (made_by x.0 log ≡ made_by x.0 x.1)
 
 -- what seat 0 knows of a new board
-abbrev pub opened : List Entry → ℕ → ℕ → View
+abbrev pub opened : List Entry → ℕ → Start → View
 opened log drivers start = record { live = true; number = 0; holds = false; seen = log; made = made_by 0 log; found = []; count = 1; joined = []; drivers = drivers; start = start }
 
 -- what is left behind of a seat that was joined
 abbrev pub spent : View
-spent = record { live = false; number = 0; holds = false; seen = []; made = []; found = []; count = 0; joined = []; drivers = 0; start = 0 }
+spent = record { live = false; number = 0; holds = false; seen = []; made = []; found = []; count = 0; joined = []; drivers = 0; start = record { faults = 0; documents = [] } }
 
 -- one more found word
 abbrev pub saw : View → ℕ → View

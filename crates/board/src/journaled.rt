@@ -4,6 +4,7 @@
 pub trait Journaled: Drop {
     ghost use Rattle.std.specs.Prelude.{◌≡◌, ℕ, List, length, ◌<◌, ◌^◌};
     ghost use Rattle.journal_entries.specs.declared.act.Entry.{Entry};
+    ghost use Rattle.board.specs.declared.view.Start.{Start};
 
     /// The entries so far.
     ghost journal: { Self → List Entry };
@@ -11,8 +12,8 @@ pub trait Journaled: Drop {
     /// How many drivers of sessions there are.
     ghost drivers: { Self → ℕ };
 
-    /// The keeper's count of faults as the run began.
-    ghost start: { Self → ℕ };
+    /// The keeper as the run began. No turn changes it.
+    ghost start: { Self → Start };
 
     /// How many entries the journal has.
     fn length(&self) -> u64
@@ -22,8 +23,4 @@ pub trait Journaled: Drop {
     /// How many drivers of sessions there are. No turn changes it.
     fn drivers(&self) -> u32
         ensures { result ≡ drivers self.now };
-
-    /// The keeper's count of faults as the run began. No turn changes it.
-    fn start(&self) -> u64
-        ensures { result ≡ start self.now };
 }

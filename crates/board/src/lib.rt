@@ -13,7 +13,7 @@ pub use board::Board;
 pub use held::Held;
 pub use journaled::Journaled;
 pub use seat::Seat;
-pub use view::View;
+pub use view::{Start, View};
 
 #[cfg(test)]
 mod tests;

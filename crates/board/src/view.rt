@@ -1,7 +1,17 @@
 //! What a seat knows.
 
 use journal_entries::Entry;
+use ot_units::Name;
+use ranges_tracker::KeptDoc;
 use std::collections::LinkedList;
+
+/// What no turn changes: the keeper as the run began. No value of it is made.
+pub struct Start {
+    /// Its count of faults.
+    pub faults: u64,
+    /// Its documents by their names, where its type tells them.
+    pub documents: LinkedList<(Name, KeptDoc)>,
+}
 
 /// What contracts see of a seat. No value of it is made.
 pub struct View {
@@ -23,6 +33,6 @@ pub struct View {
     pub joined: LinkedList<(u64, LinkedList<Entry>)>,
     /// The board's number of drivers.
     pub drivers: u64,
-    /// The board's count of faults at the start.
-    pub start: u64,
+    /// The board's start.
+    pub start: Start,
 }

@@ -1,6 +1,6 @@
 //! What the turns are taken on.
 
-ghost use Rattle.std.specs.Prelude.{◌≡◌, ◌++◌, List, All};
+ghost use Rattle.std.specs.Prelude.{◌≡◌, ◌++◌, [], List, All};
 ghost use Rattle.journal_entries.specs.Journals.{entries};
 ghost use Rattle.journal_entries.specs.declared.act.Entry.{Entry};
 
@@ -19,17 +19,13 @@ impl Journaled for Diary {
 
     ghost drivers = { λ _. 0 };
 
-    ghost start = { λ _. 0 };
+    ghost start = { λ _. record { faults = 0; documents = [] } };
 
     fn length(&self) -> u64 {
         self.journal.len()
     }
 
     fn drivers(&self) -> u32 {
-        0
-    }
-
-    fn start(&self) -> u64 {
         0
     }
 }

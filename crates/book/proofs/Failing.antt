@@ -2,6 +2,7 @@
 use Rattle.std.proofs.Common.{◌≡◌, ◌⊎◌, inl, inr, ℕ, suc, ◌+◌, ◌-◌, ◌^◌, ◌≤◌, ◌<◌, ◌||◌, List, [], ◌∷◌, ◌++◌, Bool, true, false, true≢false, refl, sym, ap, ◌∙◌, subst, arith, All}
 use Rattle.std.specs.Prelude.{Option, min}
 use Rattle.std.proofs.lemmas.List.Folds.{list_any-append}
+use Rattle.board.specs.declared.view.Start.{Start}
 use Rattle.board.proofs.Entries.{All-front}
 use Rattle.ranges_tracker.specs.Kept.{Kept}
 use Rattle.source_sink.specs.Causes.{Rose}
@@ -63,5 +64,5 @@ module _ (start count : ℕ) where
               before true e = refl
               before false e = absurd (true≢false (sym e))
 
-  pub failure_rose : {tells : Bool} {docs : List (List ℕ × Kept)} (j : List Entry) → IsLegal j → IsKeeping tells docs count start j → has_failure j ≡ true → Rose start count
-  failure_rose j legal keeps some = causes j legal keeps.began keeps.ended some
+pub failure_rose : {tells : Bool} {docs : List (List ℕ × Kept)} (start : Start) (count : ℕ) (j : List Entry) → IsLegal j → IsKeeping tells docs count start j → has_failure j ≡ true → Rose start.faults count
+failure_rose start count j legal keeps some = causes start.faults count j legal keeps.began keeps.ended some

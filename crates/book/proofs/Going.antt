@@ -18,29 +18,10 @@ use Rattle.book.specs.Flushing.{HasAsked, MayNotFlush}
 use Rattle.book.specs.declared.faults.FlushFault.{FlushFault}
 use Rattle.book.specs.declared.faults.FlushFault.TheVariants.{Stale, Memory, StoreFault}
 use Rattle.book.specs.declared.faults.PreparedKept.{PreparedKept}
-use Rattle.book.specs.Going.{GoesOn, flushed_name, flushed_names, was_flushed, with_journal}
+use Rattle.book.specs.Going.{GoesOn, with_journal}
+use Rattle.book.specs.Stored.{was_flushed}
 use Rattle.book.specs.Shown.{Shown, adds}
-
--- ---- what was never flushed wasn't before
-names-push : (j : List Entry) (e : Entry) → flushed_names (j ++ e ∷ []) ≡ flushed_names j ++ flushed_name j e.act
-unfolding flushed_names
-names-push j e = gathered-push (λ before e. flushed_name before e.act) j e
-
-flushed_by : (called : List ℕ) (j : List Entry) (e : Entry) → was_flushed called (j ++ e ∷ []) ≡ (was_flushed called j || list_any (λ flushed. bytes_eq called flushed) (flushed_name j e.act))
-flushed_by called j e =
-    ap (λ ns. list_any (λ flushed. bytes_eq called flushed) ns) (names-push j e) ∙ list_any-append (λ flushed. bytes_eq called flushed) (flushed_names j) (flushed_name j e.act)
-
-never_before : (called : List ℕ) (more j : List Entry) → was_flushed called (j ++ more) ≡ false → was_flushed called j ≡ false
-never_before called [] j none = ap (was_flushed called) (sym (append-nil j)) ∙ none
-never_before called (e ∷ es) j none =
-    (or_parts (was_flushed called j) (list_any (λ flushed. bytes_eq called flushed) (flushed_name j e.act))
-    (sym (flushed_by called j e) ∙ never_before called es (j ++ e ∷ []) (ap (was_flushed called) (append_assoc j (e ∷ []) es) ∙ none))).0
-
-other_name : (called : List ℕ) (j : List Entry) (e : Entry) (doc token v : ℕ) → e.act ≡ Flushed doc token v → was_flushed called (j ++ e ∷ []) ≡ false → called ≢ name doc j
-other_name called j e doc token v is none same =
-    let each = sym (flushed_by called j e ∙ ap (λ a. was_flushed called j || list_any (λ flushed. bytes_eq called flushed) (flushed_name j a)) is) ∙ none in
-    let apart : bytes_eq called (name doc j) ≡ false = (or_parts (bytes_eq called (name doc j)) false (or_parts (was_flushed called j) (bytes_eq called (name doc j) || false) each).1).0 in
-    absurd (true≢false (sym ((bytes_eq-Decides called (name doc j)).1 same) ∙ apart))
+use Rattle.book.proofs.Stored.{never_before, other_name}
 
 -- ---- steps
 module _ {tells : Bool} where

@@ -1,5 +1,6 @@
 -- A book after an update was sent, for which room was made in its document's queue and in the outboxes of its room.
 use Rattle.std.proofs.Common.{◌≡◌, ℕ, ◌+◌, ◌-◌, ◌≤◌, List, [], ◌∷◌, ◌++◌, length, ap, ◌∙◌}
+use Rattle.board.specs.declared.view.Start.{Start}
 use Rattle.std.specs.Prelude.{slice_get, Some}
 use Rattle.std.proofs.lemmas.List.{length-set}
 use Rattle.rooms.specs.Rooms.{Roomed, AreRoomier, HaveRoom, member}
@@ -31,7 +32,7 @@ pub as_many : {R : Document → Document → Type 0} (documents documents' : Lis
 as_many documents documents' doc t = ap length t.set_is ∙ length-set documents doc t.now
 
 -- room was made
-pub reserved_book : {names names' : List (List ℕ)} {projects : Histories} {tells : Bool} {stored : List (List ℕ × Kept)} {count start : ℕ} (before mid : Journaled) (documents documents' : List Document) (rooms rooms' : Roomed) (now tokens owed drivers doc : ℕ)
+pub reserved_book : {names names' : List (List ℕ)} {projects : Histories} {tells : Bool} {stored : List (List ℕ × Kept)} {count : ℕ} {start : Start} (before mid : Journaled) (documents documents' : List Document) (rooms rooms' : Roomed) (now tokens owed drivers doc : ℕ)
     → IsBookWithKeeper before names documents rooms projects now tokens owed drivers tells stored count start → names' ≡ names → entries mid ≡ entries before → spare before ≤ spare mid
     → Turns doc IsKeptAs documents documents' → ((c : ℕ) → AreRoomier (member c rooms) (member c rooms')) → IsBookWithKeeper mid names' documents' rooms' projects now tokens owed drivers tells stored count start
 reserved_book {projects = projects} before mid documents documents' rooms rooms' now tokens owed drivers doc was called same grows t roomier = record {
@@ -42,7 +43,7 @@ reserved_book {projects = projects} before mid documents documents' rooms rooms'
   owned = owned_same (entries before) (entries mid) same was.owned;
 }
 
-pub queued_book : {names names' : List (List ℕ)} {projects : Histories} {tells : Bool} {stored : List (List ℕ × Kept)} {count start : ℕ} (before mid after : Journaled) (documents documents' documents'' : List Document) (rooms rooms' : Roomed) (now tokens owed drivers sum ticket : ℕ) (u : Update) (e : Entry)
+pub queued_book : {names names' : List (List ℕ)} {projects : Histories} {tells : Bool} {stored : List (List ℕ × Kept)} {count : ℕ} {start : Start} (before mid after : Journaled) (documents documents' documents'' : List Document) (rooms rooms' : Roomed) (now tokens owed drivers sum ticket : ℕ) (u : Update) (e : Entry)
     → IsBookWithKeeper before names documents rooms projects now tokens owed drivers tells stored count start → entries mid ≡ entries before → (sum ≡ owed + 2) × (sum ≤ spare mid) → entries after ≡ entries mid ++ e ∷ [] → spare after + 1 ≡ spare mid
     → names' ≡ names → e.act ≡ Sent u → IsAllowed (entries before) e.seat (Sent u) → IsByOwner drivers (entries before) e.seat (Sent u) → ticket ≡ length (entries mid)
     → Turns u.doc IsKeptAs documents documents' → Turns u.doc (IsQueued ticket) documents' documents''
@@ -53,7 +54,7 @@ queued_book {projects = projects} {start = start} before mid after documents doc
   roomed = roomed_same rooms' (entries before ++ e ∷ []) (entries after) (more ∙ ap (λ l. l ++ e ∷ []) same)
       (roomed_sent rooms' (entries before) e u was.book.stands.legal is (told_room rooms' (entries before) documents documents' u.doc was.book.stands t room) (roomed_roomier rooms rooms' (entries before) roomier was.roomed));
   keeps = keeps_same (entries before ++ e ∷ []) (entries after) (more ∙ ap (λ l. l ++ e ∷ []) same)
-      (keeps_push (entries before) e (λ d o. ap (λ a. kept_by d a o) is) (ap fault_of is) (subst (BeganBy start) (sym is) tt) was.keeps);
+      (keeps_push (entries before) e (λ d o. ap (λ a. kept_by d a o) is) (ap fault_of is) (subst (BeganBy start.faults) (sym is) tt) was.keeps);
   histories = histories_same projects (entries before ++ e ∷ []) (entries after) (more ∙ ap (λ l. l ++ e ∷ []) same)
       (histories_quiet projects (entries before) e was.book.stands.legal (ap making_of is) (λ p. ap (history_by p (entries before)) is) (λ p. ap (handed_by p) is) was.histories);
   owned = owned_same (entries before ++ e ∷ []) (entries after) (more ∙ ap (λ l. l ++ e ∷ []) same) (owned_push drivers (entries before) e was.owned (subst (IsByOwner drivers (entries before) e.seat) (sym is) own));

@@ -1,9 +1,15 @@
 -- What the keeper of a book holds, behind one entry more.
-use Rattle.std.proofs.Common.{◌≡◌, ◌≢◌, ◌⊎◌, inl, inr, ℕ, ◌+◌, ◌-◌, ◌≤◌, List, [], ◌∷◌, ◌++◌, length, map, take, Bool, true, false, sym, ap, ap₂, ◌∙◌, subst, arith, eqb, append-nil, length-append, All}
+use Rattle.std.proofs.Common.{◌≡◌, ◌≢◌, ◌⊎◌, inl, inr, ℕ, ◌+◌, ◌-◌, ◌≤◌, List, [], ◌∷◌, ◌++◌, length, map, take, Bool, true, false, true≢false, ◌||◌, sym, ap, ap₂, ◌∙◌, subst, arith, eqb, append-nil, append_assoc, length-append, All}
 use Rattle.std.specs.Prelude.{Option, Some, None, IsTrue, unwrap_or, if◌then◌else◌}
+use Rattle.std.specs.List.{list_any}
+use Rattle.std.specs.Str.{bytes_eq}
+use Rattle.std.proofs.lemmas.Bool.{or_parts}
 use Rattle.std.proofs.lemmas.Bool.Decides.{eqb_tells}
+use Rattle.std.proofs.lemmas.List.Folds.{list_any-append}
+use Rattle.std.proofs.lemmas.Slice.Eq.{bytes_eq-Decides}
 use Rattle.std.proofs.lemmas.List.{map-append, take-append-le, length-map}
 use Rattle.std.proofs.lemmas.List.Elements.{All-append}
+use Rattle.board.specs.declared.view.Start.{Start}
 use Rattle.ot_parts.specs.Lines.{lines_of}
 use Rattle.ranges_tracker.specs.Cells.{Row, plain_row}
 use Rattle.ranges_tracker.specs.Kept.{Kept}
@@ -18,11 +24,11 @@ use Rattle.journal_rules.specs.Legal.{IsLegal}
 use Rattle.journal_rules.specs.Tracking.{cells_at, tracked}
 use Rattle.journal_rules.proofs.Fencing.{made_stays, making_stays}
 use Rattle.journal_rules.proofs.Lists.{some_same}
-use Rattle.journal_rules.proofs.Pushing.{applied_list-push, faults-none, faults-push, kept-none, kept-push}
+use Rattle.journal_rules.proofs.Pushing.{applied_list-push, faults-none, faults-push, gathered-push, kept-none, kept-push}
 use Rattle.journal_rules.proofs.Waits.{all_map, all_none, all_one}
 use Rattle.loading_rules.proofs.Names.{names_differ}
 use Rattle.loading_rules.proofs.Weakening.{legal_but}
-use Rattle.book.specs.Stored.{AreStored, BeganBy, IsKeeping, IsStored, kept_document}
+use Rattle.book.specs.Stored.{AreStored, BeganBy, IsKeeping, IsStored, flushed_name, flushed_names, kept_document, was_flushed}
 
 -- ---- what stands at a version stays
 module _ (docs : List (List ℕ × Kept)) (d v : ℕ) (j : List Entry) (e : Entry) where
@@ -58,31 +64,54 @@ module _ (docs : List (List ℕ × Kept)) (d v : ℕ) (j : List Entry) (e : Entr
       whole : kept_document d v (j ++ e ∷ []) ≡ kept_document d v j
       whole = ap₂ (λ (t : Option (List ℕ)) (r : Row). record { lines = lines_of (unwrap_or t []); version = v; ranges = shown r }) text_same cells_same
 
+-- ---- what was never flushed wasn't before
+names-push : (j : List Entry) (e : Entry) → flushed_names (j ++ e ∷ []) ≡ flushed_names j ++ flushed_name j e.act
+unfolding flushed_names
+names-push j e = gathered-push (λ before e. flushed_name before e.act) j e
+
+flushed_by : (called : List ℕ) (j : List Entry) (e : Entry) → was_flushed called (j ++ e ∷ []) ≡ (was_flushed called j || list_any (λ flushed. bytes_eq called flushed) (flushed_name j e.act))
+flushed_by called j e =
+    ap (λ ns. list_any (λ flushed. bytes_eq called flushed) ns) (names-push j e) ∙ list_any-append (λ flushed. bytes_eq called flushed) (flushed_names j) (flushed_name j e.act)
+
+pub never_before : (called : List ℕ) (more j : List Entry) → was_flushed called (j ++ more) ≡ false → was_flushed called j ≡ false
+never_before called [] j none = ap (was_flushed called) (sym (append-nil j)) ∙ none
+never_before called (e ∷ es) j none =
+    (or_parts (was_flushed called j) (list_any (λ flushed. bytes_eq called flushed) (flushed_name j e.act))
+    (sym (flushed_by called j e) ∙ never_before called es (j ++ e ∷ []) (ap (was_flushed called) (append_assoc j (e ∷ []) es) ∙ none))).0
+
+pub other_name : (called : List ℕ) (j : List Entry) (e : Entry) (doc token v : ℕ) → e.act ≡ Flushed doc token v → was_flushed called (j ++ e ∷ []) ≡ false → called ≢ name doc j
+other_name called j e doc token v is none same =
+    let each = sym (flushed_by called j e ∙ ap (λ a. was_flushed called j || list_any (λ flushed. bytes_eq called flushed) (flushed_name j a)) is) ∙ none in
+    let apart : bytes_eq called (name doc j) ≡ false = (or_parts (bytes_eq called (name doc j)) false (or_parts (was_flushed called j) (bytes_eq called (name doc j) || false) each).1).0 in
+    absurd (true≢false (sym ((bytes_eq-Decides called (name doc j)).1 same) ∙ apart))
+
 -- ---- an entry that puts nothing
-module _ {tells : Bool} {docs : List (List ℕ × Kept)} {count start : ℕ} where
+module _ {tells : Bool} {docs : List (List ℕ × Kept)} {count : ℕ} {start : Start} where
   pub keeps_same : (before after : List Entry) → after ≡ before → IsKeeping tells docs count start before → IsKeeping tells docs count start after
   keeps_same before after same was = subst (IsKeeping tells docs count start) (sym same) was
 
-  pub keeps_push : (j : List Entry) (e : Entry) → ((d : ℕ) (o : Option ℕ) → kept_by d e.act o ≡ o) → fault_of e.act ≡ [] → BeganBy start e.act → IsKeeping tells docs count start j → IsKeeping tells docs count start (j ++ e ∷ [])
+  pub keeps_push : (j : List Entry) (e : Entry) → ((d : ℕ) (o : Option ℕ) → kept_by d e.act o ≡ o) → fault_of e.act ≡ [] → BeganBy start.faults e.act → IsKeeping tells docs count start j → IsKeeping tells docs count start (j ++ e ∷ [])
   keeps_push j e puts_none no_fault began was = record {
     stored = λ told d v is. stays_stored docs d v j e (was.stored told d v (sym (kept-push d j e ∙ puts_none d (kept d j)) ∙ is));
+    others = λ told called none. was.others told called (never_before called (e ∷ []) j none);
     later = was.later;
-    began = All-append (λ (x : Entry). BeganBy start x.act) j (e ∷ []) was.began (all_one (λ (x : Entry). BeganBy start x.act) e began);
+    began = All-append (λ (x : Entry). BeganBy start.faults x.act) j (e ∷ []) was.began (all_one (λ (x : Entry). BeganBy start.faults x.act) e began);
     ended = subst (λ (l : List ℕ). All (λ end. end ≤ count) l) (sym (faults-push j e ∙ ap (λ l. faults j ++ l) no_fault ∙ append-nil (faults j))) was.ended;
   }
 
   pub keeps_by : (before mid after : List Entry) (seat : ℕ) (line : Option ℕ) (act : Act) (e : Entry) → e ≡ record { seat = seat; line = line; act = act } → mid ≡ before → after ≡ mid ++ e ∷ []
-      → ((d : ℕ) (o : Option ℕ) → kept_by d act o ≡ o) → fault_of act ≡ [] → BeganBy start act → IsKeeping tells docs count start before → IsKeeping tells docs count start after
+      → ((d : ℕ) (o : Option ℕ) → kept_by d act o ≡ o) → fault_of act ≡ [] → BeganBy start.faults act → IsKeeping tells docs count start before → IsKeeping tells docs count start after
   keeps_by before mid after seat line act e e_is same more puts_none no_fault began was =
       subst (IsKeeping tells docs count start) (sym (more ∙ ap₂ (λ (l : List Entry) (x : Entry). l ++ x ∷ []) same e_is))
       (keeps_push before (record { seat = seat; line = line; act = act }) puts_none no_fault began was)
 
   -- no entries
-  pub keeps_none : (j : List Entry) → j ≡ [] → start ≡ count → IsKeeping tells docs count start j
+  pub keeps_none : (j : List Entry) → j ≡ [] → start ≡ record { faults = count; documents = docs } → IsKeeping tells docs count start j
   keeps_none j empty same = subst (IsKeeping tells docs count start) (sym empty) (record {
     stored = λ told d v is. (let f : None ≡ Some v = sym (kept-none d) ∙ is in absurd (cc));
-    later = omega (arith, same);
-    began = all_none (λ (x : Entry). BeganBy start x.act);
+    others = λ told called none. ap (λ (s : Start). document_of called s.documents) (sym same);
+    later = (let n = ap (λ (s : Start). s.faults) same in omega (arith, n));
+    began = all_none (λ (x : Entry). BeganBy start.faults x.act);
     ended = subst (λ (l : List ℕ). All (λ end. end ≤ count) l) (sym faults-none) (all_none (λ end. end ≤ count));
   })
 
@@ -90,22 +119,24 @@ module _ {tells : Bool} {docs : List (List ℕ × Kept)} {count start : ℕ} whe
 grown : (count count' : ℕ) (ends : List ℕ) → count ≤ count' → All (λ end. end ≤ count) ends → All (λ end. end ≤ count') ends
 grown count count' ends later low = all_map (λ end. end ≤ count) (λ end. end ≤ count') ends (λ end le. omega (arith, le, later)) low
 
-module _ {tells : Bool} {docs docs' : List (List ℕ × Kept)} {count count' start : ℕ} (j : List Entry) (was : IsKeeping tells docs count start j) where
+module _ {tells : Bool} {docs docs' : List (List ℕ × Kept)} {count count' : ℕ} {start : Start} (j : List Entry) (was : IsKeeping tells docs count start j) where
   -- and put nothing
   pub keeps_asked : (IsTrue tells → docs' ≡ docs) → count ≤ count' → IsKeeping tells docs' count' start j
   keeps_asked same later = record {
     stored = λ told. subst (λ (l : List (List ℕ × Kept)). AreStored l j) (sym (same told)) (was.stored told);
+    others = λ told called none. ap (document_of called) (same told) ∙ was.others told called none;
     later = (let l = was.later in omega (arith, l, later));
     began = was.began;
     ended = grown count count' (faults j) later was.ended;
   }
 
   -- which is noted
-  pub keeps_failed : (e : Entry) (doc token from to : ℕ) → e.act ≡ FlushFailed doc token from to → (IsTrue tells → docs' ≡ docs) → count ≤ count' → start ≤ from → to ≤ count' → IsKeeping tells docs' count' start (j ++ e ∷ [])
+  pub keeps_failed : (e : Entry) (doc token from to : ℕ) → e.act ≡ FlushFailed doc token from to → (IsTrue tells → docs' ≡ docs) → count ≤ count' → start.faults ≤ from → to ≤ count' → IsKeeping tells docs' count' start (j ++ e ∷ [])
   keeps_failed e doc token from to is same later low high = record {
     stored = λ told d v at. stays_stored docs' d v j e (here.stored told d v (sym (kept-push d j e ∙ ap (λ a. kept_by d a (kept d j)) is) ∙ at));
+    others = λ told called none. here.others told called (never_before called (e ∷ []) j none);
     later = here.later;
-    began = All-append (λ (x : Entry). BeganBy start x.act) j (e ∷ []) was.began (all_one (λ (x : Entry). BeganBy start x.act) e (subst (BeganBy start) (sym is) low));
+    began = All-append (λ (x : Entry). BeganBy start.faults x.act) j (e ∷ []) was.began (all_one (λ (x : Entry). BeganBy start.faults x.act) e (subst (BeganBy start.faults) (sym is) low));
     ended = subst (λ (l : List ℕ). All (λ end. end ≤ count') l) (sym (faults-push j e ∙ ap (λ a. faults j ++ fault_of a) is)) (All-append (λ end. end ≤ count') (faults j) (to ∷ []) (grown count count' (faults j) later was.ended) (all_one (λ end. end ≤ count') to high));
   }
     where
@@ -117,8 +148,9 @@ module _ {tells : Bool} {docs docs' : List (List ℕ × Kept)} {count count' sta
       → (IsTrue tells → Sets (name doc j) put docs docs') → count ≤ count' → IsKeeping tells docs' count' start (j ++ e ∷ [])
   keeps_put e doc token v put is legal made at put_is set later = record {
     stored = λ told d n kept_is. stays_stored docs' d n j e (by told d n (eqb_tells doc d) (sym (kept-push d j e ∙ ap (λ a. kept_by d a (kept d j)) is) ∙ kept_is));
+    others = λ told called none. (set told).others called (other_name called j e doc token v is none) ∙ was.others told called (never_before called (e ∷ []) j none);
     later = (let l = was.later in omega (arith, l, later));
-    began = All-append (λ (x : Entry). BeganBy start x.act) j (e ∷ []) was.began (all_one (λ (x : Entry). BeganBy start x.act) e (subst (BeganBy start) (sym is) tt));
+    began = All-append (λ (x : Entry). BeganBy start.faults x.act) j (e ∷ []) was.began (all_one (λ (x : Entry). BeganBy start.faults x.act) e (subst (BeganBy start.faults) (sym is) tt));
     ended = subst (λ (l : List ℕ). All (λ end. end ≤ count') l) (sym (faults-push j e ∙ ap (λ a. faults j ++ fault_of a) is ∙ append-nil (faults j))) (grown count count' (faults j) later was.ended);
   }
     where

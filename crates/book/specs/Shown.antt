@@ -1,5 +1,6 @@
 -- What contracts see of a book: its journal, the number of its drivers and its keeper; and what holds of its fields.
 use Rattle.std.specs.Prelude.{◌≡◌, ℕ, zero, suc, ◌+◌, ◌≤◌, Bool, List, ◌++◌, length, map, Option, if◌then◌else◌}
+use Rattle.board.specs.declared.view.Start.{Start}
 use Rattle.journal_entries.specs.Journals.{Journaled, entries, spare}
 use Rattle.journal_entries.specs.declared.act.Act.{Act}
 use Rattle.journal_entries.specs.declared.act.Entry.{Entry}
@@ -16,13 +17,13 @@ use Rattle.book.specs.Standing.{AreDocuments, owed_for}
 use Rattle.book.specs.Stored.{IsKeeping}
 use Rattle.project_histories.specs.Histories.{AreHistories, Histories}
 
--- of the keeper, its documents, where its type tells them, its count of faults, and that count as the book was made
+-- of the keeper, its documents, where its type tells them, its count of faults, and both as the book was made
 pub record Shown : Type 0 where
   pub journal : List Entry
   pub drivers : ℕ
   pub documents : List (List ℕ × Kept)
   pub faults : ℕ
-  pub start : ℕ
+  pub start : Start
 
 -- how many drivers haven't closed
 abbrev pub unclosed : ℕ → List ℕ → ℕ
@@ -44,7 +45,7 @@ pub record IsBook (journal : Journaled) (names : List (List ℕ)) (documents : L
   pub room : owed ≤ spare journal
 
 -- and so do its rooms, the histories of its projects, and its keeper; and each entry of a client and each closing is by its owner
-pub record IsBookWithKeeper (journal : Journaled) (names : List (List ℕ)) (documents : List Document) (rooms : Roomed) (projects : Histories) (now tokens owed drivers : ℕ) (tells : Bool) (stored : List (List ℕ × Kept)) (count start : ℕ) : Type 0 where
+pub record IsBookWithKeeper (journal : Journaled) (names : List (List ℕ)) (documents : List Document) (rooms : Roomed) (projects : Histories) (now tokens owed drivers : ℕ) (tells : Bool) (stored : List (List ℕ × Kept)) (count : ℕ) (start : Start) : Type 0 where
   pub book : IsBook journal names documents now tokens owed drivers
   pub roomed : AreRoomed rooms (entries journal)
   pub histories : AreHistories projects (entries journal)

@@ -18,8 +18,4 @@ impl<K: Keeper> Journaled for Book<K> {
     fn drivers(&self) -> u32 {
         self.drivers
     }
-
-    fn start(&self) -> u64 {
-        self.start
-    }
 }

@@ -7,7 +7,8 @@ ghost use Rattle.journal_entries.specs.declared.act.Act.TheVariants.{Made, Ticke
 ghost use Rattle.journal_rules.specs.Documents.{IsMade, is_in, makings, number_of, waiting};
 ghost use Rattle.journal_rules.specs.Deciding.{longest};
 ghost use Rattle.journal_rules.specs.Locks.{clock};
-ghost use Rattle.journal_rules.specs.Legal.{IsLegal, IsRaw, closed, clock_end, highest_base};
+ghost use Rattle.journal_rules.specs.Legal.{IsLegal, closed, clock_end, highest_base};
+ghost use Rattle.ot_op.specs.Operation.{IsWithinLimits};
 ghost use Rattle.journal_rules.specs.Whys.{IsWhy};
 ghost use Rattle.book.specs.Shown.{adds};
 ghost use Rattle.turn_rules.specs.Owning.{driver_count, driver_owner};
@@ -15,7 +16,7 @@ ghost use Rattle.book.specs.Calls.{existing, MayNotTick, MayNotSend, raw_act, ti
 ghost use Rattle.book.specs.Standing.{IsNew};
 ghost use Rattle.source_sink.specs.Causes.{Rose};
 ghost use Rattle.book.specs.Failing.{has_failure};
-ghost use Rattle.book.specs.Stored.{AreStored};
+ghost use Rattle.book.specs.Stored.{AreStored, KeepsOthers};
 
 use crate::document::Document;
 use crate::documents::Documents;
@@ -31,6 +32,7 @@ use project_histories::Projects;
 use rooms::Rooms;
 use std::alloc::{AllocError, Global};
 use std::marker::Model;
+use std::snapshot::Snapshot;
 
 /// A legal journal, the documents as it has them, and a keeper for those that are flushed. Contracts see
 /// the journal, the number of drivers, and of the keeper its documents and its count of faults.
@@ -51,8 +53,8 @@ pub struct Book<K: Keeper> {
     pub(crate) drivers: u32,
     /// Where documents are put as they are flushed.
     pub(crate) keeper: K,
-    /// The keeper's count of faults as the book was made.
-    pub(crate) start: u64,
+    /// The keeper as the book was made, for contracts alone.
+    pub(crate) first: Snapshot<K>,
     pub(crate) alloc: Global,
 }
 
@@ -63,9 +65,9 @@ impl<K: Keeper> Model for Book<K> {
 
     ghost Value = { Shown };
 
-    ghost view = { λ b. record { journal = entries b.journal; drivers = b.drivers; documents = K.documents b.keeper; faults = K.count b.keeper; start = b.start } };
+    ghost view = { λ b. record { journal = entries b.journal; drivers = b.drivers; documents = K.documents b.keeper; faults = K.count b.keeper; start = record { faults = K.count b.first.value; documents = K.documents b.first.value } } };
 
-    ghost invariant = { λ b. IsBookWithKeeper b.journal b.documents.names b.documents.items b.rooms b.projects b.moment b.tokens b.owed b.drivers K.tells (K.documents b.keeper) (K.count b.keeper) b.start };
+    ghost invariant = { λ b. IsBookWithKeeper b.journal b.documents.names b.documents.items b.rooms b.projects b.moment b.tokens b.owed b.drivers K.tells (K.documents b.keeper) (K.count b.keeper) (record { faults = K.count b.first.value; documents = K.documents b.first.value }) };
 }
 
 impl<K: Keeper> Book<K> {
@@ -73,11 +75,11 @@ impl<K: Keeper> Book<K> {
     /// Where memory is wanting the keeper is handed back.
     pub fn new(alloc: Global, keeper: K, drivers: u32) -> Result<Book<K>, (AllocError, K)>
         requires { drivers ≤ 16 }
-        ensures ok { IfOk result (λ b. b ≡ record { journal = []; drivers = drivers; documents = K.documents keeper; faults = K.count keeper; start = K.count keeper }) }
+        ensures ok { IfOk result (λ b. b ≡ record { journal = []; drivers = drivers; documents = K.documents keeper; faults = K.count keeper; start = record { faults = K.count keeper; documents = K.documents keeper } }) }
         ensures err { IfErr result (λ r. r.1 ≡ keeper) }
     {
         let owed = owed_at_first(drivers);
-        let start = keeper.faults();
+        let first = Snapshot::of(&keeper);
         let mut journal = Journal::new(alloc);
         let Ok(()) = journal.reserve(owed) else {
             return Err((AllocError, keeper));
@@ -92,7 +94,7 @@ impl<K: Keeper> Book<K> {
             owed,
             drivers,
             keeper,
-            start,
+            first,
             alloc,
         })
     }
@@ -159,7 +161,7 @@ impl<K: Keeper> Book<K> {
     /// Sends a raw update, and answers its ticket; one whose operation isn't in form is noted, and has none.
     pub fn send_raw(&mut self, by: By, raw: &RawUpdate) -> Result<Option<u64>, RawFault>
         requires source { raw.now.source ≤ MAX_RAW_SOURCE }
-        requires within { IfOk raw.now.op IsRaw }
+        requires within { IfOk raw.now.op IsWithinLimits }
         ensures sent { IfOk result (λ t. IsMade raw.now.doc self.old.journal × (t ≡ ticket_of_raw raw.now.op (length self.old.journal))
             × (self.new ≡ adds self.old by.seat by.line (raw_act (clock self.old.journal) raw.now ∷ []))) }
         ensures refused { IfErr result (λ f. MayNotSend self.old.journal raw.now.doc f) }
@@ -269,13 +271,14 @@ impl<K: Keeper> Book<K> {
     }
 
     /// The keeper and the journal, for the end of a run. Where the keeper tells its documents, each that
-    /// was flushed stands in it as the journal has it at the version of its last flush. The keeper's
-    /// count didn't fall, and where the journal tells of a failure, it rose, or stands at its last value.
+    /// was flushed stands in it as the journal has it at the version of its last flush, and under all other
+    /// names what it had as the book was made. The keeper's count didn't fall, and where the journal tells of a failure, it rose, or stands at its last value.
     pub fn ended(self) -> (K, Journal)
         ensures keeper { (K.documents result.0 ≡ self.documents) × (K.count result.0 ≡ self.faults) }
         ensures stored { IsTrue K.tells → AreStored (K.documents result.0) (entries result.1) }
-        ensures later { self.start ≤ self.faults }
-        ensures causes { has_failure self.journal ≡ true → Rose self.start self.faults }
+        ensures others { KeepsOthers K.tells self.journal self.start.documents self.documents }
+        ensures later { self.start.faults ≤ self.faults }
+        ensures causes { has_failure self.journal ≡ true → Rose self.start.faults self.faults }
         ensures entries { entries result.1 ≡ self.journal }
         ensures legal { IsLegal (entries result.1) }
     {

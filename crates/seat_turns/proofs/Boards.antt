@@ -4,6 +4,7 @@ use Rattle.std.specs.Prelude.{filter, if◌then◌else◌}
 use Rattle.std.specs.List.{list_all}
 use Rattle.std.proofs.lemmas.List.Elements.{filter-append}
 use Rattle.journal_entries.specs.declared.act.Entry.{Entry}
+use Rattle.board.specs.declared.view.Start.{Start}
 use Rattle.board.specs.declared.view.View.{View}
 use Rattle.board.specs.Turns.{TakesLate}
 use Rattle.board.specs.Views.{Begins, made_by}
@@ -31,7 +32,7 @@ sees_all seat seen journal made begins here all =
     let count : length (filter (is_by seat) seen) + length (filter (is_by seat) more) ≡ length (filter (is_by seat) seen) = sym (length-append (filter (is_by seat) seen) (filter (is_by seat) more)) ∙ ap length both in
     (more, begins.1, none_own (is_by seat) more (nothing (filter (is_by seat) more) (omega (arith, count))))
 
-module _ {B : Type 0} (journal : B → List Entry) (drivers start : B → ℕ) (v w : View) (value : B) where
+module _ {B : Type 0} (journal : B → List Entry) (drivers : B → ℕ) (start : B → Start) (v w : View) (value : B) where
   -- a seat that had seen all that it made
   pub wins_among : made_by v.number v.seen ≡ v.made → TakesLate journal drivers start v w value → Among (is_by v.number) v.seen (journal value)
   wins_among own t = sees_all v.number v.seen (journal value) v.made t.1.seen_is own t.1.made_is

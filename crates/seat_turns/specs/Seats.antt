@@ -6,6 +6,7 @@ use Rattle.journal_entries.specs.declared.act.Act.TheVariants.{Acquired}
 use Rattle.journal_entries.specs.declared.act.Entry.{Entry}
 use Rattle.journal_rules.specs.Locks.{Acquiring, HeldBy}
 use Rattle.run_rules.specs.Threads.{is_by}
+use Rattle.board.specs.declared.view.Start.{Start}
 use Rattle.board.specs.Turns.{Sitting}
 use Rattle.board.specs.Views.{made_by}
 
@@ -18,7 +19,7 @@ abbrev pub IsIdle : TableId → Sitting → Type 0
 IsIdle board seat = (seat.board ≡ board) × (seat.view.holds ≡ false) × (made_by seat.view.number seat.view.seen ≡ seat.view.made)
 
 -- one that has the turn, on a book with this journal, these drivers and this start
-abbrev pub IsInTurn : TableId → Sitting → List Entry → ℕ → ℕ → Type 0
+abbrev pub IsInTurn : TableId → Sitting → List Entry → ℕ → Start → Type 0
 IsInTurn board seat journal drivers start =
     (seat.board ≡ board) × (seat.view.holds ≡ true) × (seat.view.seen ≡ journal) × (drivers ≡ seat.view.drivers) × (start ≡ seat.view.start)
 

@@ -147,7 +147,7 @@ returns-clause-ok g c =
     let t = c.settle-outcome.ensures.settled in
     let is = c.settle-outcome.ensures.outcome ∙ decided_now (entries s.journal) s.documents.items t.was look c.args.prepared.decision c.self.invariant.book.stands t.at of none c.requires.decided in
     let e = c.entry_of.ensures ∙ ap (λ o. record { seat = c.args.by.seat; line = c.args.by.line; act = Committed look.doc look.token look.ticket o }) is in
-    rw (← c.self.view_is) (none, ap (λ l. record { journal = l; drivers = s.drivers; documents = g.K.Keeper.documents s.keeper; faults = g.K.Keeper.count s.keeper; start = s.start }) (c.push.ensures.entries ∙ ap (λ (x : Entry). entries s.journal ++ x ∷ []) e))
+    rw (← c.self.view_is) (none, ap (λ l. record { journal = l; drivers = s.drivers; documents = g.K.Keeper.documents s.keeper; faults = g.K.Keeper.count s.keeper; start = record { faults = g.K.Keeper.count s.first.value; documents = g.K.Keeper.documents s.first.value } }) (c.push.ensures.entries ∙ ap (λ (x : Entry). entries s.journal ++ x ∷ []) e))
 
 pub unreachable-requires : goal.unreachable-requires
 unreachable-requires g c =

@@ -8,5 +8,5 @@ use Rattle.book.proofs.book.Book.ended.Goals as goal
 
 pub returns-clause-causes : goal.returns-clause-causes
 returns-clause-causes g c =
-    subst (λ (v : Shown). has_failure v.journal ≡ true → Rose v.start v.faults) c.self.view_is
-    (failure_rose c.self.inside.start _ (entries c.self.inside.journal) c.self.invariant.book.stands.legal c.self.invariant.keeps)
+    subst (λ (v : Shown). has_failure v.journal ≡ true → Rose v.start.faults v.faults) c.self.view_is
+    (failure_rose (record { faults = g.K.Keeper.count c.self.inside.first.value; documents = g.K.Keeper.documents c.self.inside.first.value }) _ (entries c.self.inside.journal) c.self.invariant.book.stands.legal c.self.invariant.keeps)

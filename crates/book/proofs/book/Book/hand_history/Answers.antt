@@ -96,5 +96,5 @@ returns-clause-ok g c =
     let entry = c.entry_of.ensures ∙ ap₂ (λ n k. entry_by c.args.by.seat c.args.by.line (Handed n k)) c.in-Ok.ensures count in
     rw (← c.self.view_is) (
       placed_known p s.projects j c.in-Some.place c.self.invariant.histories at,
-      ap (λ l. record { journal = l; drivers = s.drivers; documents = g.K.Keeper.documents s.keeper; faults = g.K.Keeper.count s.keeper; start = s.start }) (c.push.ensures.entries ∙ ap₂ (λ (l : List Entry) (e : Entry). l ++ e ∷ []) c.make_room.ensures.entries entry),
+      ap (λ l. record { journal = l; drivers = s.drivers; documents = g.K.Keeper.documents s.keeper; faults = g.K.Keeper.count s.keeper; start = record { faults = g.K.Keeper.count s.first.value; documents = g.K.Keeper.documents s.first.value } }) (c.push.ensures.entries ∙ ap₂ (λ (l : List Entry) (e : Entry). l ++ e ∷ []) c.make_room.ensures.entries entry),
     )

@@ -74,7 +74,7 @@ returns-clause-ok g c =
     let entry : c.entry_of.result ≡ entry_by c.args.by.seat c.args.by.line (Joined c.args.client.now.client c.args.doc c.args.user.now c.args.track None (source_at j) (version c.args.doc j)) = c.entry_of.ensures
     ∙ ap₂ (λ n u. entry_by c.args.by.seat c.args.by.line (Joined n c.args.doc u c.args.track None (FIRST_SOURCE + c.len-source.result) c.version-version.result)) c.client-number.ensures c.in-Ok-Ok.ensures'
     ∙ ap₂ (λ n v. entry_by c.args.by.seat c.args.by.line (Joined c.args.client.now.client c.args.doc c.args.user.now c.args.track None n v)) source v_is in
-    rw (← c.self.view_is) (made, ap (λ l. record { journal = l; drivers = s.drivers; documents = g.K.Keeper.documents s.keeper; faults = g.K.Keeper.count s.keeper; start = s.start }) (c.push.ensures.entries ∙ ap₂ (λ (l : List Entry) (e : Entry). l ++ e ∷ []) c.make_room.ensures.entries entry))
+    rw (← c.self.view_is) (made, ap (λ l. record { journal = l; drivers = s.drivers; documents = g.K.Keeper.documents s.keeper; faults = g.K.Keeper.count s.keeper; start = record { faults = g.K.Keeper.count s.first.value; documents = g.K.Keeper.documents s.first.value } }) (c.push.ensures.entries ∙ ap₂ (λ (l : List Entry) (e : Entry). l ++ e ∷ []) c.make_room.ensures.entries entry))
 
 pub returns-clause-client : goal.returns-clause-client
 returns-clause-client g c =

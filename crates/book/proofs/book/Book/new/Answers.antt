@@ -1,4 +1,4 @@
-use Rattle.std.proofs.Common.{◌∙◌, []}
+use Rattle.std.proofs.Common.{◌∙◌, [], ap}
 use Rattle.journal_entries.specs.Journals.{entries}
 use Rattle.book.proofs.Booking.{new_book}
 use Rattle.book.proofs.Roomed.{roomed_none}
@@ -15,5 +15,5 @@ invariant_of-result g c =
       roomed = roomed_none c.new-2.result (entries c.reserve.new.self) empty c.new-2.ensures;
       histories = histories_none c.new-3.result (entries c.reserve.new.self) empty c.new-3.ensures.projects c.new-3.ensures.places;
       owned = owned_same [] (entries c.reserve.new.self) empty (owned_none c.args.drivers);
-      keeps = keeps_none (entries c.reserve.new.self) empty c.faults-start.ensures;
+      keeps = keeps_none (entries c.reserve.new.self) empty (ap (λ k. record { faults = g.K.Keeper.count k; documents = g.K.Keeper.documents k }) c.of-first.ensures);
     }

@@ -248,7 +248,7 @@ returns-clause-ok g c =
     ∙ ap₂ (λ u t. entry_by c.args.by.seat c.args.by.line (Joined was.client was.now.doc u t (Some c.version-since.result) (FIRST_SOURCE + c.len-source.result) c.version-version.result)) user track
     ∙ ap₂ (λ n m. entry_by c.args.by.seat c.args.by.line (Joined was.client was.now.doc was.now.user was.now.track (Some n) m c.version-version.result)) since source
     ∙ ap (λ n. entry_by c.args.by.seat c.args.by.line (Joined was.client was.now.doc was.now.user was.now.track (Some was.now.version) (source_at j) n)) v in
-    rw (← c.self.view_is) (may, ap (λ l. record { journal = l; drivers = s.drivers; documents = g.K.Keeper.documents s.keeper; faults = g.K.Keeper.count s.keeper; start = s.start }) (c.push.ensures.entries ∙ ap₂ (λ (l : List Entry) (e : Entry). l ++ e ∷ []) c.make_room.ensures.entries entry))
+    rw (← c.self.view_is) (may, ap (λ l. record { journal = l; drivers = s.drivers; documents = g.K.Keeper.documents s.keeper; faults = g.K.Keeper.count s.keeper; start = record { faults = g.K.Keeper.count s.first.value; documents = g.K.Keeper.documents s.first.value } }) (c.push.ensures.entries ∙ ap₂ (λ (l : List Entry) (e : Entry). l ++ e ∷ []) c.make_room.ensures.entries entry))
 
 pub returns-clause-client : goal.returns-clause-client
 returns-clause-client g c =

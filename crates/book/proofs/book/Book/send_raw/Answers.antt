@@ -8,7 +8,8 @@ use Rattle.ot_op.specs.declared.comp.Comp.{Comp}
 use Rattle.ot_op.specs.declared.fault.FormFault.{FormFault}
 use Rattle.journal_entries.specs.declared.update.Update.{Update}
 use Rattle.journal_entries.specs.declared.act.Entry.{Entry}
-use Rattle.journal_rules.specs.Legal.{IsAllowed, IsRaw, IsRawUpdate}
+use Rattle.journal_rules.specs.Legal.{IsAllowed, IsRawUpdate}
+use Rattle.ot_op.specs.Operation.{IsWithinLimits}
 use Rattle.book.specs.Calls.{update_by}
 use Rattle.book.specs.declared.document.Document.{Document}
 use Rattle.rooms.specs.Rooms.{HaveRoom}
@@ -50,7 +51,7 @@ invariant_of-self-2 g c =
     let len = c.len.ensures in
     let u = c.in-Ok-update_of.update in
     let u_is = c.in-Ok-update_of.ensures in
-    let raw : IsRaw c.in-Ok-copy.op = subst IsRaw (sym c.in-Ok-copy.ensures) (subst (λ (o : Result (List Comp) FormFault). IfOk o IsRaw) c.in-Ok.is c.requires.within) in
+    let raw : IsWithinLimits c.in-Ok-copy.op = subst IsWithinLimits (sym c.in-Ok-copy.ensures) (subst (λ (o : Result (List Comp) FormFault). IfOk o IsWithinLimits) c.in-Ok.is c.requires.within) in
     let made : IsMade c.args.raw.now.doc (entries s.journal) = omega (arith, count, within, len) in
     let row : IsRawUpdate (entries s.journal) (update_by s.moment c.args.raw.now c.in-Ok-copy.op) = record { made = made; unnumbered = refl; source_low = c.requires.source; at_once = c.self.invariant.book.now_is; within = raw } in
     let at : c.args.raw.now.doc ≡ u.doc = ap (λ (x : Update). x.doc) (sym u_is) in
