@@ -89,7 +89,7 @@ module _ {K : Type 0} (tells : Bool) (documents : K → List (List ℕ × Kept))
   over (ending.Done run) has gives = record {
     stored = gives.stored;
     others = λ told called none. ap (document_of called) gives.documents_are ∙ has.others told called none;
-    causes = λ some. subst (λ n. Rose n (count back)) has.start_is (gives.causes some);
+    causes = λ some. subst (λ n. Rose n (count back)) (ap (λ s. s.faults) has.start_is) (gives.causes some);
   }
 
   abbrev Falls : ℕ → Type 0
@@ -106,7 +106,7 @@ module _ {K : Type 0} (tells : Bool) (documents : K → List (List ℕ × Kept))
   falls_not out (ending.Memory keeper) status (inr (inl t)) has gives = absurd t.2
   falls_not out (ending.Memory keeper) status (inr (inr t)) has gives = inl t.0
   falls_not out (ending.Script fault keeper) status told_so has gives = inr (no_fall (gives ∙ has))
-  falls_not out (ending.Done run) status told_so has gives = let start = has.start_is in let later = gives.later in inr (omega (arith, start, later))
+  falls_not out (ending.Done run) status told_so has gives = let start = ap (λ s. s.faults) has.start_is in let later = gives.later in inr (omega (arith, start, later))
 
   abbrev Asks : ℕ → Type 0
   Asks status = (status ≡ 2) ⊎ (status ≡ 3) ⊎ (status ≡ 5) ⊎ (status ≡ 8)

@@ -7,9 +7,8 @@ use Rattle.std.proofs.lemmas.List.{length-map}
 use Rattle.project_histories.proofs.Lists.{none_passes}
 use Rattle.ot_op.specs.declared.comp.Comp.{Comp}
 use Rattle.ot_op.specs.declared.fault.FormFault.{FormFault}
-use Rattle.ot_json.specs.Grammar.{IsWithinLimits}
 use Rattle.journal_rules.specs.Documents.{Making, is_named}
-use Rattle.journal_rules.specs.Legal.{IsRaw, clock_end}
+use Rattle.journal_rules.specs.Legal.{clock_end}
 use Rattle.expiring_lock.specs.declared.lock.TheConstants.{LOCK_LIFE}
 use Rattle.session_lines.specs.Names.{same_name}
 use Rattle.session_lines.specs.Script.{documents_of, makes_document, may_make, may_join, may_follow}
@@ -17,7 +16,7 @@ use Rattle.session_lines.specs.Standing.{AreSlow, AreStanding, IsWithin, moved_b
 use Rattle.session_lines.specs.declared.line.Line.{Line}
 use Rattle.session_lines.specs.declared.line.Line.TheVariants.{Doc, Raw, Ins, Del}
 use Rattle.session_runner.specs.Ending.{first_unbuilt}
-use Rattle.session_runner.specs.Fitting.{AreBuilt, AreFit, IsFit, is_built, makings_by}
+use Rattle.script_driver.specs.Fitting.{AreBuilt, AreFit, IsFit, is_built, makings_by}
 
 abbrev all_makings : List Making → List Line → List Making
 all_makings ms [] = ms
@@ -46,10 +45,6 @@ fewer_documents [] = omega arith
 fewer_documents (Doc doc project text v ∷ ls) = let h = fewer_documents ls in omega (arith, h)
 fewer_documents (_ ∷ ls) = let h = fewer_documents ls in omega (arith, h)
 
-raw_fit : (op : Result (List Comp) FormFault) → IfOk op IsWithinLimits → IfOk op IsRaw
-raw_fit (Ok op) within = record { few = within.few; short = within.short; in_reach = within.in_reach }
-raw_fit (Err fault) within = tt
-
 is_fit : (ls : List Line) (l : Line) → IsWithin l → may_follow ls l ≡ true → IsFit (all_makings [] ls) l
 is_fit ls (Doc doc project text v) within may =
     let made = and_parts (may_make ls (Some doc)) (may_join ls None) may in
@@ -65,7 +60,7 @@ is_fit ls (Doc doc project text v) within may =
       within.0,
       within.1,
     )
-is_fit ls (Raw session doc user source dup track v op) within may = (within.0, raw_fit op within.1)
+is_fit ls (Raw session doc user source dup track v op) within may = within
 is_fit ls (Ins session p text) within may = within
 is_fit ls (Del session p n) within may = within
 is_fit ls _ within may = tt

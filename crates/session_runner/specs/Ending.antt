@@ -18,18 +18,18 @@ use Rattle.session_runner.specs.declared.ending.Ending.{Ending}
 use Rattle.session_runner.specs.declared.ending.Ending.TheVariants as ending
 use Rattle.session_runner.specs.declared.ending.LineFault.{LineFault}
 use Rattle.session_runner.specs.declared.ending.LineFault.TheVariants.{Json, Form, Unknown, Unbuilt}
-use Rattle.session_runner.specs.Fitting.{is_built}
-use Rattle.session_runner.specs.Holding.{empty_book}
+use Rattle.script_driver.specs.Fitting.{is_built}
+use Rattle.script_driver.specs.Holding.{empty_book}
 use Rattle.ranges_tracker.specs.Kept.{Kept}
 use Rattle.source_sink.specs.Causes.{Rose}
 use Rattle.book.specs.Failing.{has_failure}
-use Rattle.book.specs.Going.{GoesOn, KeepsOthers}
+use Rattle.book.specs.Going.{GoesOn}
 use Rattle.book.specs.Shown.{Shown}
-use Rattle.book.specs.Stored.{AreStored}
+use Rattle.book.specs.Stored.{AreStored, KeepsOthers}
 use Rattle.session_runner.specs.Passing.{MayFail, Passed, PassedKeeper}
 use Rattle.session_runner.specs.Report.{names_of, report_of}
-use Rattle.session_runner.specs.Clients.{AreClientsOf}
-use Rattle.session_runner.specs.Handing.{items_handed}
+use Rattle.script_driver.specs.Clients.{AreClientsOf}
+use Rattle.script_driver.specs.Handing.{items_handed}
 use Rattle.session_runner.specs.declared.ending.Run.{Run}
 
 -- the words are the one word `run`
@@ -128,9 +128,9 @@ HasKeeper tells documents count given (ending.Done run) = GoesOn tells (empty_bo
 -- the keeper that a book gives back
 pub record IsOfBook {K : Type 0} (tells : Bool) (documents : K → List (List ℕ × Kept)) (count : K → ℕ) (book : Shown) (keeper : K) : Type 0 where
   pub documents_are : documents keeper ≡ book.documents
-  pub later : book.start ≤ count keeper
+  pub later : book.start.faults ≤ count keeper
   pub stored : IsTrue tells → AreStored (documents keeper) book.journal
-  pub causes : has_failure book.journal ≡ true → Rose book.start (count keeper)
+  pub causes : has_failure book.journal ≡ true → Rose book.start.faults (count keeper)
 
 -- the keeper that an ending gives back
 abbrev pub GivesBack : {K : Type 0} → Bool → (K → List (List ℕ × Kept)) → (K → ℕ) → Ending K → K → Type 0

@@ -1,9 +1,3 @@
-pub mod Fitting
-pub mod Clients
-pub mod Apart
-pub mod Syncing
-pub mod Handing
-pub mod Holding
 pub mod Report
 pub mod Writing
 pub mod Passing

@@ -10,19 +10,19 @@ ghost use Rattle.run_rules.specs.Completing.{has_flush_failed_at_end, is_flush_f
 ghost use Rattle.run_rules.specs.Follows.{Follows};
 ghost use Rattle.session_runner.specs.Ending.{AreRun, CanBeTold, EndsAs, Explains, GivesBack, HasKeeper, IsTextTold, IsTold, fault_in, fault_text, first_unbuilt as first_unbuilt_lem, line_text, status_by};
 ghost use Rattle.book.specs.Going.{GoesOn};
-ghost use Rattle.session_runner.specs.Handing.{items_handed};
-ghost use Rattle.session_runner.specs.Holding.{empty_book};
-ghost use Rattle.session_runner.specs.Fitting.{AreBuilt, AreFit, is_built as is_built_lem};
+ghost use Rattle.script_driver.specs.Handing.{items_handed};
+ghost use Rattle.script_driver.specs.Holding.{empty_book};
+ghost use Rattle.script_driver.specs.Fitting.{AreBuilt, AreFit, is_built as is_built_lem};
 ghost use Rattle.session_runner.specs.Passing.{passed};
-ghost use Rattle.session_runner.specs.Clients.{AreClientsOf};
+ghost use Rattle.script_driver.specs.Clients.{AreClientsOf};
 
-use crate::closing::end_run;
-use crate::driver::{Left, do_lines};
 use crate::report::{WriteFault, write_report};
 use book::Book;
 use history_queue::Item;
 use journal_entries::{Act, Entry};
 use keeper::Keeper;
+use run_end::end_run;
+use script_driver::{Left, do_lines};
 use session_lines::{Line, Names, Script, ScriptFault, read_script};
 use share_client::ShareClient;
 use source_sink::{ReadFault, Sink, Source, read_all, write_all};

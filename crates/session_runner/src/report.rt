@@ -8,9 +8,9 @@ ghost use Rattle.source_sink.specs.Outside.{Wrote};
 ghost use Rattle.journal_rules.specs.Documents.{IsMade, makings};
 ghost use Rattle.journal_rules.specs.Legal.{IsLegal};
 ghost use Rattle.session_runner.specs.Report.{document_line as document_line_lem, document_lines, report_of};
-ghost use Rattle.session_runner.specs.Handing.{handed_count as handed_count_lem, items_handed};
+ghost use Rattle.script_driver.specs.Handing.{handed_count as handed_count_lem, items_handed};
 ghost use Rattle.session_runner.specs.Writing.{Pushed};
-ghost use Rattle.session_runner.specs.Clients.{AreClientsOf};
+ghost use Rattle.script_driver.specs.Clients.{AreClientsOf};
 ghost use Rattle.run_rules.specs.Report.{client_line_of, client_lines, entry_lines, end_state as end_state_lem, project_line as project_line_lem, project_lines, shown_text};
 ghost use Rattle.project_histories.specs.Handing.{projects_of};
 

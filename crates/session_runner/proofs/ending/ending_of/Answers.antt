@@ -1,8 +1,8 @@
 use Rattle.std.proofs.Common.{◌∙◌, ◌≤◌, ◌*◌, ◌+◌, List, [], length, sym, ap, subst, arith}
 use Rattle.session_lines.specs.Standing.{AreBySessions, AreSlow}
 use Rattle.session_lines.specs.declared.line.Line.{Line}
-use Rattle.session_runner.specs.Fitting.{AreBuilt, AreFit}
-use Rattle.session_runner.proofs.Lists.{none_of}
+use Rattle.script_driver.specs.Fitting.{AreBuilt, AreFit}
+use Rattle.book.proofs.Lists.{none_of}
 use Rattle.session_runner.proofs.Fitting.{fits, none_unbuilt, slower}
 use Rattle.session_runner.proofs.ending.ending_of.Goals as goal
 

@@ -6,7 +6,7 @@ use Rattle.run_rules.proofs.Completing.{follows_ended}
 use Rattle.turn_rules.specs.Turns.{entry_by}
 use Rattle.book.proofs.Going.{goes_further}
 use Rattle.session_runner.proofs.Fitting.{ticks_low}
-use Rattle.session_runner.proofs.Handing.{ends_hand_none}
+use Rattle.run_end.proofs.Handing.{ends_hand_none}
 use Rattle.session_runner.proofs.ending.run_lines.Goals as goal
 
 pub do_lines-requires-clause-slow : goal.do_lines-requires-clause-slow

@@ -5,7 +5,7 @@ use Rattle.share_client.specs.Clients.{Numbered}
 use Rattle.journal_rules.specs.Client.{Client, client}
 use Rattle.run_rules.specs.Report.{client_line, client_line_of, client_lines, end_state}
 use Rattle.session_runner.specs.Writing.{Pushed}
-use Rattle.session_runner.proofs.Owning.{get_there}
+use Rattle.script_driver.proofs.Owning.{get_there}
 use Rattle.session_runner.proofs.Writing.{clients_cut, clients_more, longer, regrouped, regrouped_prefix}
 use Rattle.session_runner.proofs.report.write_clients.Goals as goal
 

@@ -2,7 +2,7 @@ use Rattle.std.proofs.Common.{rules, ◌≡◌, ◌++◌, ◌∙◌, [], length,
 use Rattle.journal_rules.specs.Documents.{makings}
 use Rattle.journal_rules.specs.Legal.{IsLegal}
 use Rattle.run_rules.specs.Report.{client_lines, entry_lines, project_lines}
-use Rattle.session_runner.specs.Handing.{items_handed}
+use Rattle.script_driver.specs.Handing.{items_handed}
 use Rattle.session_runner.specs.Report.{document_lines, report_of}
 use Rattle.source_sink.specs.Buffered.{DeliveredPrefix}
 use Rattle.session_runner.specs.Writing.{Pushed}

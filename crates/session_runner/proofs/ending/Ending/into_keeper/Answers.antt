@@ -11,7 +11,7 @@ returns-in-Done g c =
     subst (λ e. GivesBack g.K.Keeper.tells g.K.Keeper.documents g.K.Keeper.count e k) (sym c.in-Done.is)
     (record {
       documents_are = by.keeper.0;
-      later = subst (λ n. book.start ≤ n) (sym by.keeper.1) by.later;
+      later = subst (λ n. book.start.faults ≤ n) (sym by.keeper.1) by.later;
       stored = λ told. subst (AreStored (g.K.Keeper.documents k)) by.entries (by.stored told);
-      causes = λ some. subst (λ n. Rose book.start n) (sym by.keeper.1) (by.causes some);
+      causes = λ some. subst (λ n. Rose book.start.faults n) (sym by.keeper.1) (by.causes some);
     })

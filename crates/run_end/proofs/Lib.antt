@@ -1,0 +1,4 @@
+pub mod Draining
+pub mod Catching
+pub mod Rounding
+pub mod Handing

@@ -1,0 +1,6 @@
+//! The end of a run: `end_run`.
+#![tactic(auto)]
+
+mod closing;
+
+pub use closing::end_run;

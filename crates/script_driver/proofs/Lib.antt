@@ -1,0 +1,12 @@
+pub mod Clients
+pub mod Apart
+pub mod Taking
+pub mod Holding
+pub mod Quiet
+pub mod Getting
+pub mod Handing
+pub mod Owning
+pub mod Lines
+pub mod Resting
+pub mod Flushes
+pub mod Finishing

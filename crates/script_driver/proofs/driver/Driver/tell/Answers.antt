@@ -1,0 +1,36 @@
+use Rattle.std.proofs.Common.{◌≡◌, ◌<◌, inl, ◌∙◌, refl, sym, ap, subst}
+use Rattle.std.specs.Prelude.{slice_get, Some}
+use Rattle.std.specs.Vec.{with_item}
+use Rattle.std.proofs.lemmas.Result.{on_ok_weaker}
+use Rattle.book.specs.Shown.{Shown}
+use Rattle.client_lines.specs.Lines.{client_act}
+use Rattle.script_driver.proofs.Lines.{both_ok}
+use Rattle.script_driver.proofs.Owning.{get_there, own_act, own_driver, own_goes, own_line}
+use Rattle.turn_rules.specs.Owning.{client_owner}
+use Rattle.script_driver.proofs.driver.Driver.tell.Goals as goal
+
+pub returns-clause-driver : goal.returns-clause-driver
+returns-clause-driver g c =
+    let was = c.in-Some.client.now in
+    let j = c.args.self.now.book.journal in
+    let at : slice_get c.args.self.now.clients.items c.args.session ≡ Some was = get_there c.args.self.now.clients.items c.args.session was (subst (λ n. c.args.session < n) (sym c.requires.driver.many) c.requires.session) c.in-Some.ensures.value in
+    let number = (c.requires.driver.clients.each c.args.session was at).0 in
+    on_ok_weaker c.do_line.result (λ g. let is = (own_act c.args.self.now.book c.do_line.new.book c.args.self.now.seat c.args.by.seat was.client c.args.session c.args.by.line (λ n. client_act n j c.args.line.now) c.requires.seat number g.0) in own_driver c.args.self.now (record c.args.self.now { book = c.do_line.new.book; clients = with_item c.args.self.now.clients c.args.session c.do_line.new.client }) c.args.session was c.do_line.new.client c.requires.driver at refl refl refl refl (ap (λ (b : Shown). b.drivers) is) (own_goes c.args.self.now.seat c.args.session c.args.self.now.book c.do_line.new.book c.args.by.line _ is (own_line c.args.session j c.args.line.now)) g.1)
+    (both_ok _ _ c.do_line.result c.do_line.ensures.does c.do_line.ensures.client)
+
+pub returns-clause-quiet : goal.returns-clause-quiet
+returns-clause-quiet g c =
+    let was = c.in-Some.client.now in
+    let j = c.args.self.now.book.journal in
+    let at : slice_get c.args.self.now.clients.items c.args.session ≡ Some was = get_there c.args.self.now.clients.items c.args.session was (subst (λ n. c.args.session < n) (sym c.requires.driver.many) c.requires.session) c.in-Some.ensures.value in
+    let number = (c.requires.driver.clients.each c.args.session was at).0 in
+    on_ok_weaker c.do_line.result (λ g. own_goes c.args.self.now.seat c.args.session c.args.self.now.book c.do_line.new.book c.args.by.line _ (own_act c.args.self.now.book c.do_line.new.book c.args.self.now.seat c.args.by.seat was.client c.args.session c.args.by.line (λ n. client_act n j c.args.line.now) c.requires.seat number g) (own_line c.args.session j c.args.line.now)) c.do_line.ensures.does
+
+pub do_line-requires-clause-owner : goal.do_line-requires-clause-owner
+do_line-requires-clause-owner g c = inl (c.requires.seat ∙ sym (c.requires.owned) ∙ ap (λ n. client_owner c.args.self.now.book.drivers n) (sym ((c.requires.driver.clients.each c.args.session c.in-Some.client.now (get_there c.args.self.now.clients.items c.args.session c.in-Some.client.now (subst (λ n. c.args.session < n) (sym c.requires.driver.many) c.requires.session) c.in-Some.ensures.value)).0)))
+
+pub do_line-requires-clause-client : goal.do_line-requires-clause-client
+do_line-requires-clause-client g c =
+    let was = c.in-Some.client.now in
+    let at : slice_get c.args.self.now.clients.items c.args.session ≡ Some was = get_there c.args.self.now.clients.items c.args.session was (subst (λ n. c.args.session < n) (sym c.requires.driver.many) c.requires.session) c.in-Some.ensures.value in
+    (c.requires.driver.clients.each c.args.session was at).1 c.requires.owned

@@ -1,0 +1,6 @@
+pub mod Fitting
+pub mod Clients
+pub mod Apart
+pub mod Syncing
+pub mod Handing
+pub mod Holding
