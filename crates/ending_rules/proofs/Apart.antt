@@ -18,6 +18,7 @@ use Rattle.journal_rules.proofs.Pushing.{client-push}
 use Rattle.journal_rules.proofs.Legality.{legal_front, allowed_next}
 use Rattle.journal_rules.proofs.Lists.{some_same}
 use Rattle.journal_laws.proofs.ClientsOn.{if_false}
+use Rattle.turn_rules.proofs.Owning.{other_client}
 use Rattle.ending_rules.proofs.Shapes.{is_of_drain, is_got_by}
 
 -- ---- by the entries of a list that all have something
@@ -67,13 +68,9 @@ got_apart c k brief apart = record {
   quiet = λ h r n. if_false (eqb k c) (option_map one_got r) r (ne_eqb k c apart);
 }
 
-is_of_not : (c : ℕ) (o : Option ℕ) → (o ≡ Some c → ⊥) → is_of c o ≡ false
-is_of_not c None apart = refl
-is_of_not c (Some k) apart = ne_eqb k c (λ same. apart (ap (λ (n : ℕ). Some n) same))
-
 pub sent_apart : (c : ℕ) (u : Update) → (u.client ≡ Some c → ⊥) → Apart c (Sent u)
 sent_apart c u apart = record {
-  same = λ h s. if_false (is_of c u.client) (sent_by s s.flight) s (is_of_not c u.client apart);
+  same = λ h s. if_false (is_of c u.client) (sent_by s s.flight) s (other_client c u.client apart);
   unsent = λ v sent own. apart (ap (λ (x : Update). x.client) (some_same u v sent) ∙ own);
   quiet = λ h r n. refl;
 }

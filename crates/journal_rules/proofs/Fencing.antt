@@ -205,10 +205,10 @@ module _ (d : ℕ) (a : Acquiring) where
 pub stays_text : (d n : ℕ) (h k : List Entry) → making d k ≡ making d h → applied_list d k ≡ applied_list d h → text_at d n k ≡ text_at d n h
 stays_text d n h k m l = ap₂ (λ x y. replayed (first_in x) (take (n - base_in x) (map (λ (i : Item). i.op) y))) m l
 
-stays_cells : (d n : ℕ) (h k : List Entry) → making d k ≡ making d h → applied_list d k ≡ applied_list d h → cells_at d n k ≡ cells_at d n h
+pub stays_cells : (d n : ℕ) (h k : List Entry) → making d k ≡ making d h → applied_list d k ≡ applied_list d h → cells_at d n k ≡ cells_at d n h
 stays_cells d n h k m l = ap₂ (λ x y. tracked (plain_row (first_in x)) (take (n - base_in x) y)) m l
 
-stays_decided : (d : ℕ) (u : Update) (h k : List Entry) → making d k ≡ making d h → applied_list d k ≡ applied_list d h → decided k d u ≡ decided h d u
+pub stays_decided : (d : ℕ) (u : Update) (h k : List Entry) → making d k ≡ making d h → applied_list d k ≡ applied_list d h → decided k d u ≡ decided h d u
 stays_decided d u h k m l =
     ap₂ (λ x y. decided_of (base_in x) (base_in x + length y) (replayed (first_in x) (map (λ (i : Item). i.op) y)) u (map passed_of (drop (u.v - base_in x) y))) m l
 

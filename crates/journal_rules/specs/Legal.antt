@@ -3,7 +3,7 @@ use Rattle.std.specs.Prelude.{◌≡◌, ◌≢◌, ◌⊎◌, ℕ, ◌+◌, ◌
 use Rattle.std.specs.List.{list_any}
 use Rattle.std.specs.Str.{bytes_eq}
 use Rattle.ot_op.specs.declared.comp.Comp.{Comp}
-use Rattle.ot_op.specs.Operation.{is_void, place, units_of, total_units}
+use Rattle.ot_op.specs.Operation.{is_void, total_units, IsWithinLimits}
 use Rattle.ot_op.specs.Apply.{applied}
 use Rattle.ot_op.specs.Compose.{appended}
 use Rattle.expiring_lock.specs.declared.lock.TheConstants.{LOCK_LIFE}
@@ -29,18 +29,11 @@ use Rattle.journal_rules.specs.Client.{client, sending}
 use Rattle.journal_rules.specs.Keeping.{kept, cached, loading, FailedUnder, faults}
 use Rattle.journal_rules.specs.History.{history}
 use Rattle.journal_rules.specs.Whys.{most_components, most_units, IsWhy}
-use Rattle.ot_op.specs.declared.limits.TheConstants.{MAX_COMPONENTS, MAX_OPERATION_UNITS, MAX_PLACE}
 use Rattle.journal_entries.specs.declared.limits.TheConstants.{FIRST_SOURCE, MAX_BASE, MAX_MOMENT, MAX_RAW_SOURCE}
 
 -- the greatest version at which a document may be made
 abbrev pub highest_base : ℕ
 highest_base = MAX_BASE
-
--- the limits of a raw operation
-pub record IsRaw (op : List Comp) : Type 0 where
-  pub few : length op ≤ MAX_COMPONENTS
-  pub short : total_units op ≤ MAX_OPERATION_UNITS
-  pub in_reach : All (λ c. place c ≤ MAX_PLACE) op
 
 -- a document is made
 pub record IsMaking (before : List Entry) (doc : ℕ) (name first : List ℕ) (base : ℕ) : Type 0 where
@@ -88,7 +81,7 @@ pub record IsRawUpdate (before : List Entry) (u : Update) : Type 0 where
   pub unnumbered : u.number ≡ 0
   pub source_low : u.source ≤ MAX_RAW_SOURCE
   pub at_once : u.ms ≡ clock before
-  pub within : IsRaw u.op
+  pub within : IsWithinLimits u.op
 
 -- an update: a client's is what it sends
 abbrev pub IsSending : List Entry → Update → Option ℕ → Type 0

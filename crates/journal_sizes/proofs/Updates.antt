@@ -6,7 +6,7 @@ use Rattle.std.proofs.lemmas.Bool.{cases_lt}
 use Rattle.std.proofs.lemmas.Bool.Decides.{nat_tests}
 use Rattle.std.proofs.lemmas.List.Elements.{All-nil, All-cons, All-head, All-tail}
 use Rattle.ot_op.specs.declared.comp.Comp.{Comp}
-use Rattle.ot_op.specs.Operation.{place}
+use Rattle.ot_op.specs.Operation.{place, IsWithinLimits}
 use Rattle.ot_transform.specs.Crossing.{through}
 use Rattle.ot_transform.specs.Room.{new_units_of_all, FitsAll}
 use Rattle.ot_transform.specs.Size.{NoLarger}
@@ -18,7 +18,7 @@ use Rattle.journal_rules.specs.Documents.{IsMade, makings, Item, applied_list, o
 use Rattle.journal_rules.specs.Deciding.{longest, greatest_age}
 use Rattle.journal_rules.specs.Locks.{clock}
 use Rattle.journal_rules.specs.Client.{client, places_fit, greatest_place}
-use Rattle.journal_rules.specs.Legal.{IsAllowed, IsLegal, IsRaw, IsSending}
+use Rattle.journal_rules.specs.Legal.{IsAllowed, IsLegal, IsSending}
 use Rattle.journal_rules.proofs.Legality.{Keeps, by_last}
 use Rattle.journal_rules.proofs.Lists.{AllIn, Each, some_same}
 use Rattle.journal_rules.proofs.Replaying.{ops, replays_on}
@@ -44,7 +44,7 @@ low_tested (c ∷ cs) all =
     is_low : (n : ℕ) → n ≤ greatest_place → nat_le n greatest_place ≡ true
     is_low n le = grind (arith, nat_tests)
 
-pub raw_sized : (op : List Comp) → IsRaw op → IsSized op
+pub raw_sized : (op : List Comp) → IsWithinLimits op → IsSized op
 raw_sized op raw =
     let e = edits_least op in let s = raw.short in let c = comments_least op in let f = raw.few in
     record { light = record { units = omega (arith, e, s); comments = omega (arith, c, f) }; low = low_tested op raw.in_reach }

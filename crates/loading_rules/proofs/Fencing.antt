@@ -19,7 +19,7 @@ use Rattle.journal_rules.proofs.Pushing.{applied_list-push, cached-push, last_ac
 use Rattle.journal_rules.proofs.Waits.{one_if, waiting-more, waiting-committed_other}
 use Rattle.loading_rules.specs.LegalBut.{IsLegalBut, IsAllowedBut}
 use Rattle.loading_rules.proofs.Legality.{legal_front, allowed_next, Keeps, goes_on, by_last}
-use Rattle.journal_rules.proofs.Fencing.{IsCommit, Quiet, Stays, acquirings_more, commit_or, made_stays, making_stays, stays_text}
+use Rattle.journal_rules.proofs.Fencing.{IsCommit, Quiet, Stays, acquirings_more, commit_or, made_stays, making_stays, stays_cells, stays_decided, stays_text}
 use Rattle.loading_rules.proofs.Waits.{committed_below}
 use Rattle.loading_rules.specs.Fence.{IsFencedBut}
 
@@ -167,13 +167,6 @@ module _ (d : ℕ) (a : Acquiring) where
         cached_is = λ ticket others waits was. rest.cached_is ticket (others ++ s.more) (s.waiting_is ∙ ap (λ l. l ++ s.more) waits) (s.cached_is ticket others waits was);
       } in
       subst (λ (k : List Entry). Stays d h k) again all
-
-stays_cells : (d n : ℕ) (h k : List Entry) → making d k ≡ making d h → applied_list d k ≡ applied_list d h → cells_at d n k ≡ cells_at d n h
-stays_cells d n h k m l = ap₂ (λ x y. tracked (plain_row (first_in x)) (take (n - base_in x) y)) m l
-
-stays_decided : (d : ℕ) (u : Update) (h k : List Entry) → making d k ≡ making d h → applied_list d k ≡ applied_list d h → decided k d u ≡ decided h d u
-stays_decided d u h k m l =
-    ap₂ (λ x y. decided_of (base_in x) (base_in x + length y) (replayed (first_in x) (map (λ (i : Item). i.op) y)) u (map passed_of (drop (u.v - base_in x) y))) m l
 
 pub fenced : (early more : List Entry) (d : ℕ) (a : Acquiring) → IsFencedBut early more d a
 fenced early more d a legal holds ends unused =

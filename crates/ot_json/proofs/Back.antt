@@ -16,7 +16,7 @@ use Rattle.ot_units.specs.Text.{IsText, exact_units, is_basic, is_unit, sanitize
 use Rattle.ot_units.proofs.Sanitized.{sanitized_by_chars, sanitized_char}
 use Rattle.ot_op.specs.declared.comp.Comp.{Comp}
 use Rattle.ot_op.specs.declared.comp.Comp.TheVariants.{Ins, Del, Com}
-use Rattle.ot_op.specs.Operation.{IsOp, is_void, place}
+use Rattle.ot_op.specs.Operation.{IsOp, is_void, place, AreInReach, IsWithinLimits}
 use Rattle.ot_json.specs.declared.reading.Grammar.{Grammar}
 use Rattle.ot_json.specs.declared.reading.Grammar.TheVariants.{Sent, Stored}
 use Rattle.ot_json.specs.declared.reading.Reading.TheVariants.{Kept}
@@ -24,7 +24,7 @@ use Rattle.json_lines.specs.Reading.{within}
 use Rattle.ot_json.specs.Form.{Written, insert, delete, comment, max_thread, written_of}
 use Rattle.ot_op.specs.declared.limits.TheConstants.{MAX_PLACE}
 use Rattle.ot_json.specs.Reading.{reading_of}
-use Rattle.ot_json.specs.Grammar.{AreInReach, IsComponent, IsWithinLimits, component_data, components_or_fault, is_out_of_form, is_supplementary, kept, long_operation_of, operation_data, operation_of, readings, unless_large}
+use Rattle.ot_json.specs.Grammar.{IsComponent, component_data, components_or_fault, is_out_of_form, is_supplementary, kept, long_operation_of, operation_data, operation_of, readings, unless_large}
 
 -- ---- texts
 

@@ -10,14 +10,14 @@ use Rattle.ot_units.specs.Text.{exact_units, sanitized_units}
 use Rattle.ot_op.specs.declared.comp.Comp.{Comp}
 use Rattle.ot_op.specs.declared.comp.Comp.TheVariants.{Ins, Del, Com}
 use Rattle.ot_op.specs.declared.fault.FormFault.{FormFault}
-use Rattle.ot_op.specs.Operation.{is_void, place, total_units}
+use Rattle.ot_op.specs.Operation.{is_void, place, total_units, IsWithinLimits}
 use Rattle.ot_json.specs.declared.reading.Grammar.TheVariants.{Sent}
 use Rattle.ot_json.specs.declared.reading.Reading.{Reading}
 use Rattle.ot_json.specs.declared.reading.Reading.TheVariants.{Kept, Dropped, Supplementary, OutOfForm}
 use Rattle.ot_op.specs.declared.limits.TheConstants.{MAX_PLACE}
 use Rattle.ot_json.specs.Form.{Written, insert, delete, comment, place_at, thread_at, insert_of, delete_of, comment_of, written_of}
 use Rattle.ot_json.specs.Reading.{unless_void, exactly, sent_reading, reading_of}
-use Rattle.ot_json.specs.Grammar.{kept, readings, is_out_of_form, is_supplementary, unless_faulty, components_or_fault, array_or_fault, unless_large, operation_of, IsWithinLimits}
+use Rattle.ot_json.specs.Grammar.{kept, readings, is_out_of_form, is_supplementary, unless_faulty, components_or_fault, array_or_fault, unless_large, operation_of}
 use Rattle.ot_json.proofs.Given.{IfGiven, all_none, given_then, given_map_with, given_with, given_choice, given_or, whole_given, all_given}
 
 abbrev InReach : Comp → Type 0

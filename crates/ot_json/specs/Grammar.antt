@@ -10,7 +10,7 @@ use Rattle.ot_op.specs.declared.comp.Comp.{Comp}
 use Rattle.ot_op.specs.declared.comp.Comp.TheVariants.{Ins, Del, Com}
 use Rattle.ot_op.specs.declared.fault.FormFault.{FormFault}
 use Rattle.ot_op.specs.declared.fault.FormFault.TheVariants as fault
-use Rattle.ot_op.specs.Operation.{place, total_units}
+use Rattle.ot_op.specs.Operation.{total_units}
 use Rattle.ot_json.specs.declared.fault.OpFault.{OpFault}
 use Rattle.ot_json.specs.declared.fault.OpFault.TheVariants.{Bad, Memory}
 use Rattle.ot_json.specs.declared.reading.Grammar.{Grammar}
@@ -18,7 +18,7 @@ use Rattle.ot_json.specs.declared.reading.Grammar.TheVariants.{Sent, Stored}
 use Rattle.ot_json.specs.declared.reading.Reading.{Reading}
 use Rattle.ot_json.specs.declared.reading.Reading.TheVariants.{Kept, Dropped, Supplementary, OutOfForm}
 use Rattle.ot_json.specs.Form.{max_thread, written_of}
-use Rattle.ot_op.specs.declared.limits.TheConstants.{MAX_COMPONENTS, MAX_OPERATION_UNITS, MAX_PLACE}
+use Rattle.ot_op.specs.declared.limits.TheConstants.{MAX_COMPONENTS, MAX_OPERATION_UNITS}
 use Rattle.ot_json.specs.Reading.{reading_of}
 
 -- ---- reading
@@ -96,13 +96,3 @@ abbrev pub IsComponent : Comp → Type 0
 IsComponent (Ins p us) = IsText us
 IsComponent (Del p us) = IsText us
 IsComponent (Com p us t) = IsText us × (t ≤ max_thread)
-
--- each place may be written
-abbrev pub AreInReach : List Comp → Type 0
-AreInReach comps = All (λ c. place c ≤ MAX_PLACE) comps
-
--- a client may send the operation
-pub record IsWithinLimits (comps : List Comp) : Type 0 where
-  pub in_reach : AreInReach comps
-  pub few : length comps ≤ MAX_COMPONENTS
-  pub short : total_units comps ≤ MAX_OPERATION_UNITS

@@ -1,7 +1,7 @@
 //! Reading operations from JSON values.
 ghost use Rattle.std.specs.Prelude.{◌≡◌, Ok, IfErr, IfOk, IfSome, map};
-ghost use Rattle.ot_json.specs.Grammar.{IsWithinLimits, IsFaultOf, array_or_fault, components_or_fault, long_operation_of, operation_of, readings, unless_large};
-ghost use Rattle.ot_op.specs.Operation.{units_of, total_units};
+ghost use Rattle.ot_json.specs.Grammar.{IsFaultOf, array_or_fault, components_or_fault, long_operation_of, operation_of, readings, unless_large};
+ghost use Rattle.ot_op.specs.Operation.{units_of, total_units, IsWithinLimits};
 ghost use Rattle.line_reader.specs.Fields.{edit_data};
 ghost use Rattle.serde_json.specs.Data.{array};
 ghost use Rattle.serde_json.specs.Find.{as_array};

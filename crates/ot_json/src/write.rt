@@ -2,7 +2,8 @@
 ghost use Rattle.std.specs.Prelude.{◌≡◌, All, Ok, IfOk, false, string_bytes};
 ghost use Rattle.std.specs.Str.{encode_utf8_all};
 ghost use Rattle.ot_units.specs.Text.{IsText};
-ghost use Rattle.ot_json.specs.Grammar.{AreInReach, IsComponent, IsWithinLimits, component_data, long_operation_of, operation_data, operation_of};
+ghost use Rattle.ot_json.specs.Grammar.{IsComponent, component_data, long_operation_of, operation_data, operation_of};
+ghost use Rattle.ot_op.specs.Operation.{AreInReach, IsWithinLimits};
 ghost use Rattle.serde_json.specs.View.{view};
 ghost use Rattle.serde_json.specs.Written.{has_float};
 

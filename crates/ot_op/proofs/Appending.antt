@@ -1,6 +1,6 @@
 -- A component behind a list of components, by the last one.
-use Rattle.std.proofs.Common.{◌≡◌, ℕ, zero, suc, ◌-◌, ◌<◌, Bool, true, false, List, [], ◌∷◌, ◌++◌, refl, ap, sym, ◌∙◌, take, drop, length, get_or, arith, length-append, ne_eqb}
-use Rattle.std.specs.Prelude.{slice_set, ◌==◌, if◌then◌else◌}
+use Rattle.std.proofs.Common.{◌≡◌, ℕ, zero, suc, ◌-◌, ◌<◌, Bool, true, false, List, [], ◌∷◌, ◌++◌, refl, ap, sym, ◌∙◌, take, drop, length, get_or, arith, length-append, ne_eqb, Result, Ok, Err, Some, None}
+use Rattle.std.specs.Prelude.{slice_set, ◌==◌, if◌then◌else◌, Option, MatchOption, IfOk, OnErr}
 use Rattle.std.proofs.lemmas.List.Elements.{All-set, All-get_or}
 use Rattle.std.proofs.lemmas.Bool.Decides.{nat_tests}
 use Rattle.ot_units.specs.Text.{put_at}
@@ -46,7 +46,7 @@ joined_solid (Del p s) m (Del q u) a b j = ap is_void (sym (in_one _ _ _ _ _ j))
 joined_solid (Del p s) m (Com q u t) a b j = cc
 joined_solid (Com p s t) m c a b j = cc
 
-pub joined_solid_in : (cs : List Comp) (n : ℕ) (l m c : Comp) → length cs ≡ suc n → l ≡ get_or cs n l → IsOp cs → is_void c ≡ false → joined l c ≡ m ∷ [] → IsOp (slice_set cs n m)
+joined_solid_in : (cs : List Comp) (n : ℕ) (l m c : Comp) → length cs ≡ suc n → l ≡ get_or cs n l → IsOp cs → is_void c ≡ false → joined l c ≡ m ∷ [] → IsOp (slice_set cs n m)
 joined_solid_in cs n l m c e is op b j =
     let P : Comp → Type 0 = λ x. is_void x ≡ false in
     let lt : n < length cs = omega arith in
@@ -58,3 +58,10 @@ set_same_item [] zero l is = refl
 set_same_item [] (suc n) l is = refl
 set_same_item (x ∷ xs) zero l is = ap (λ y. y ∷ xs) is
 set_same_item (x ∷ xs) (suc n) l is = ap (λ ys. x ∷ ys) (set_same_item xs n l is)
+
+-- the same for whatever came of joining
+pub joined_solid_on : {E : Type 0} (r : Result (Option Comp) E) (cs : List Comp) (n : ℕ) (l m c : Comp) → length cs ≡ suc n → l ≡ get_or cs n l → IsOp cs → is_void c ≡ false
+    → IfOk r (λ o. MatchOption o (joined l c ≡ m ∷ []) (λ d. (d ≡ c) × (m ≡ l) × (joined l c ≡ l ∷ c ∷ []))) → OnErr r (m ≡ l) → IsOp (slice_set cs n m)
+joined_solid_on (Ok None) cs n l m c e is op b ok err = joined_solid_in cs n l m c e is op b ok
+joined_solid_on (Ok (Some d)) cs n l m c e is op b ok err = rw ok.1 (rw (set_same_item cs n l is) op)
+joined_solid_on (Err x) cs n l m c e is op b ok err = rw err (rw (set_same_item cs n l is) op)

@@ -1,8 +1,9 @@
 -- What operations are.
-use Rattle.std.specs.Prelude.{◌≡◌, ℕ, Bool, false, List, length, ◌==◌, sum_by}
+use Rattle.std.specs.Prelude.{◌≡◌, ℕ, ◌≤◌, Bool, false, List, length, ◌==◌, sum_by}
 use Rattle.std.specs.List.{All}
 use Rattle.ot_op.specs.declared.comp.Comp.{Comp}
 use Rattle.ot_op.specs.declared.comp.Comp.TheVariants.{Ins, Del, Com}
+use Rattle.ot_op.specs.declared.limits.TheConstants.{MAX_COMPONENTS, MAX_OPERATION_UNITS, MAX_PLACE}
 
 -- an insert or delete of the empty text
 abbrev pub is_void : Comp → Bool
@@ -28,3 +29,13 @@ units_of (Com at part thread) = length part
 
 abbrev pub total_units : List Comp → ℕ
 total_units comps = sum_by units_of comps
+
+-- no component stands farther than a client may send it
+abbrev pub AreInReach : List Comp → Type 0
+AreInReach comps = All (λ c. place c ≤ MAX_PLACE) comps
+
+-- a client may send the operation
+pub record IsWithinLimits (comps : List Comp) : Type 0 where
+  pub in_reach : AreInReach comps
+  pub few : length comps ≤ MAX_COMPONENTS
+  pub short : total_units comps ≤ MAX_OPERATION_UNITS

@@ -20,11 +20,10 @@ pub fn append(op: &mut Op, comp: Comp) -> Result<(), (AllocError, Comp)>
     if comp.is_void() {
         return Ok(());
     }
-    let count = op.comps.len();
-    if count == 0 {
+    let last = op.comps.len().saturating_sub(1);
+    let Some(last) = op.comps.get_mut(last) else {
         return op.push(comp);
-    }
-    let last = &mut op.comps[count - 1];
+    };
     match join_into(last, comp)? {
         None => Ok(()),
         Some(comp) => op.push(comp),

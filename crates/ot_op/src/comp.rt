@@ -1,10 +1,11 @@
 //! `Comp`, one component of an operation.
 
-ghost use Rattle.std.specs.Prelude.{◌≡◌, IfOk};
+ghost use Rattle.std.specs.Prelude.{◌≡◌, [], IfOk};
 ghost use Rattle.ot_op.specs.Operation.{is_void};
 
 use ot_units::Units;
 use std::alloc::{AllocError, Global};
+use std::default::MadeWith;
 
 /// One component of an operation. Its place counts UTF-16 code units in the text that the
 /// components before it left.
@@ -41,5 +42,16 @@ impl Comp {
             Comp::Del(at, part) => Ok(Comp::Del(*at, part.copy(alloc)?)),
             Comp::Com(at, part, thread) => Ok(Comp::Com(*at, part.copy(alloc)?, *thread)),
         }
+    }
+}
+
+/// The insert of the empty text at the start, which fills a place that has no component.
+impl MadeWith<Global> for Comp {
+    ghost use Rattle.ot_op.specs.declared.comp.Comp.TheVariants.{Ins};
+
+    ghost is_made_with = { λ comp. comp ≡ Ins 0 [] };
+
+    fn made_with(alloc: Global) -> Comp {
+        Comp::Ins(0, Units::empty(alloc))
     }
 }

@@ -21,5 +21,5 @@ pub use compose_ops::{compose, compose_same};
 pub use fault::{ApplyFault, FormFault};
 pub use invert_op::{invert, invert_undoes};
 pub use limits::{MAX_COMPONENTS, MAX_OPERATION_UNITS, MAX_PLACE, MAX_TEXT_UNITS};
-pub use op::Op;
+pub use op::{Comps, Op};
 pub use text_like::TextLike;

@@ -4,13 +4,17 @@ ghost use Rattle.std.specs.Prelude.{◌≡◌, [], ◌∷◌, ◌++◌, false, I
 ghost use Rattle.ot_op.specs.Operation.{IsOp, is_void};
 
 use crate::Comp;
+use smallvec::SmallVec;
 use std::alloc::{AllocError, Global};
 use std::marker::Model;
+
+/// Components in order. One of them takes no memory of its own.
+pub type Comps = SmallVec<Comp, 1>;
 
 /// An operation: components that apply in order, no insert or delete among them empty.
 #[derive(Debug, Drop)]
 pub struct Op {
-    pub(crate) comps: Vec<Comp>,
+    pub(crate) comps: Comps,
 }
 
 impl Model for Op {
@@ -31,7 +35,7 @@ impl Op {
         ensures { result ≡ [] }
     {
         Op {
-            comps: Vec::new(alloc),
+            comps: SmallVec::new(alloc),
         }
     }
 
@@ -60,7 +64,7 @@ impl Op {
     }
 
     /// The components, given up by the operation.
-    pub fn into_comps(self) -> Vec<Comp>
+    pub fn into_comps(self) -> Comps
         ensures value { result.items ≡ self }
         ensures solid { IsOp result.items }
     {
@@ -82,10 +86,10 @@ impl Op {
     }
 }
 
-fn copy_comps(alloc: Global, comps: &[Comp]) -> Result<Vec<Comp>, AllocError>
+fn copy_comps(alloc: Global, comps: &[Comp]) -> Result<Comps, AllocError>
     ensures { IfOk result (λ made. made.items ≡ comps.now) }
 {
-    let mut made = Vec::new(alloc);
+    let mut made = SmallVec::with_capacity(alloc, comps.len())?;
     for comp in comps {
         made.push(comp.copy(alloc)?)?;
     }

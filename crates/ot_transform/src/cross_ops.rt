@@ -11,7 +11,7 @@ ghost use Rattle.ot_transform.specs.Size.{BothNoLarger};
 
 use crate::moved::{Moved, append_all, append_moved};
 use crate::moving::move_component;
-use ot_op::{Comp, Op, append};
+use ot_op::{Comp, Comps, Op, append};
 use std::alloc::{AllocError, Global};
 
 /// Two operations on one text, each past the other: the left one as it follows the right one, and
@@ -53,7 +53,7 @@ fn cross_lists(alloc: Global, left: &[Comp], right: &[Comp]) -> Result<Option<(O
 // Walks the left list with one right component in hand, and answers the new left list and what is
 // in hand at the end.
 #[cycle(cross)]
-fn walk(alloc: Global, first: Comp, left: &[Comp]) -> Result<Option<(Op, Vec<Comp>)>, AllocError>
+fn walk(alloc: Global, first: Comp, left: &[Comp]) -> Result<Option<(Op, Comps)>, AllocError>
     requires solid { IsOp left.now }
     requires fits { Fits left.now (first ∷ []) }
     ensures { IfOk result (λ o. walk_lists o ≡ walked crossed [] first left.now) }
@@ -74,23 +74,19 @@ fn walk(alloc: Global, first: Comp, left: &[Comp]) -> Result<Option<(Op, Vec<Com
             Moved::Two(one, two) => return cross_rest(alloc, next, one, two, tail),
         }
     }
-    let mut end = Vec::new(alloc);
+    let mut end = Comps::new(alloc);
     end.push(hand)?;
     Ok(Some((next, end)))
 }
 
 // With nothing in hand the rest of the left list stays as it is.
-fn keep_rest(
-    alloc: Global,
-    mut next: Op,
-    rest: &[Comp],
-) -> Result<Option<(Op, Vec<Comp>)>, AllocError>
+fn keep_rest(alloc: Global, mut next: Op, rest: &[Comp]) -> Result<Option<(Op, Comps)>, AllocError>
     ensures { IfOk result (λ o. walk_lists o ≡ after_meeting crossed (next, []) rest.now) }
 {
     for comp in rest {
         append(&mut next, comp.copy(alloc)?).map_err(|(full, _)| full)?;
     }
-    Ok(Some((next, Vec::new(alloc))))
+    Ok(Some((next, Comps::new(alloc))))
 }
 
 // With two components in hand, these are crossed with the rest of the left list.
@@ -101,7 +97,7 @@ fn cross_rest(
     one: Comp,
     two: Comp,
     rest: &[Comp],
-) -> Result<Option<(Op, Vec<Comp>)>, AllocError>
+) -> Result<Option<(Op, Comps)>, AllocError>
     requires solid { IsOp rest.now }
     requires fits { Fits rest.now (one ∷ two ∷ []) }
     ensures { IfOk result (λ o. walk_lists o ≡ after_meeting crossed (next, one ∷ two ∷ []) rest.now) }

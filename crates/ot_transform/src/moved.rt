@@ -4,7 +4,7 @@ ghost use Rattle.std.specs.Prelude.{◌≡◌, ◌∷◌, [], OnOk};
 ghost use Rattle.ot_op.specs.Compose.{composed};
 ghost use Rattle.ot_transform.specs.Moved.{moved_list};
 
-use ot_op::{Comp, Op, append};
+use ot_op::{Comp, Comps, Op, append};
 use std::alloc::AllocError;
 
 /// What a component becomes past another one.
@@ -33,7 +33,7 @@ pub(crate) fn append_moved(op: &mut Op, moved: Moved) -> Result<(), AllocError>
 }
 
 /// Appends components.
-pub(crate) fn append_all(op: &mut Op, comps: Vec<Comp>) -> Result<(), AllocError>
+pub(crate) fn append_all(op: &mut Op, comps: Comps) -> Result<(), AllocError>
     ensures { OnOk result (op.new ≡ composed op.old comps.items) }
 {
     for comp in comps {

@@ -9,6 +9,7 @@ ghost use Rattle.std.specs.Hash as fed;
 ghost use Rattle.std.proofs.Common.{rules};
 ghost use Rattle.ot_units.specs.Text.{is_name, is_name_byte_lem, name_of};
 
+use arrayvec::ArrayString;
 use std::alloc::{AllocError, Global};
 use std::fmt;
 use std::hash::{Hash, Hasher};
@@ -17,22 +18,61 @@ use std::marker::Model;
 /// The greatest number of bytes in a name.
 const LONGEST: usize = 64;
 
+/// How many bytes a name may have that takes no memory.
+const SHORT: usize = 16;
+
+/// A name's bytes.
+#[derive(Drop)]
+enum Kept {
+    Short(ArrayString<SHORT>),
+    Long(String),
+}
+
+impl Kept {
+    ghost use Rattle.ot_units.specs.Kept.{kept_bytes};
+
+    fn new(alloc: Global, text: &str) -> Result<Kept, AllocError>
+        ensures { IfOk result (λ made. kept_bytes made ≡ text.now) }
+    {
+        match ArrayString::from(text) {
+            Ok(short) => Ok(Kept::Short(short)),
+            Err(_) => Ok(Kept::Long(String::from_str(alloc, text)?)),
+        }
+    }
+
+    fn as_str(&self) -> &str
+        ensures { result.now ≡ kept_bytes self.now }
+    {
+        match self {
+            Kept::Short(short) => short.as_str(),
+            Kept::Long(long) => long.as_str(),
+        }
+    }
+}
+
+impl fmt::Debug for Kept {
+    fn fmt<W: fmt::Write>(&self, f: &mut fmt::Formatter<W>) -> fmt::Result {
+        fmt::Debug::fmt(self.as_str(), f)
+    }
+}
+
 /// 1 to 64 bytes, each an ASCII letter, a digit, `-` or `_`: the name of a document, project,
 /// session or user.
 #[derive(Debug, Drop)]
 pub struct Name {
-    text: String,
+    text: Kept,
 }
 
 impl Model for Name {
-    ghost use Rattle.std.specs.Prelude.{ℕ, List, IsTrue, string_bytes};
+    ghost use Rattle.std.specs.Prelude.{ℕ, List, IsTrue};
     ghost use Rattle.ot_units.specs.Text.{is_name};
+    ghost use Rattle.ot_units.specs.Kept.{kept_bytes};
 
     ghost Value = { List ℕ };
 
-    ghost view = { λ s. string_bytes s.text };
+    ghost view = { λ s. kept_bytes s.text };
 
-    ghost invariant = { λ s. IsTrue (is_name (string_bytes s.text)) };
+    ghost invariant = { λ s. IsTrue (is_name (kept_bytes s.text)) };
 }
 
 impl Name {
@@ -43,7 +83,7 @@ impl Name {
         if !is_name_text(text.as_bytes()) {
             return Ok(None);
         }
-        let text = String::from_str(alloc, text)?;
+        let text = Kept::new(alloc, text)?;
         Ok(Some(Name { text }))
     }
 
@@ -59,7 +99,7 @@ impl Name {
     pub fn copy(&self, alloc: Global) -> Result<Name, AllocError>
         ensures { IfOk result (λ made. made ≡ self.now) }
     {
-        let text = String::from_str(alloc, self.text.as_str())?;
+        let text = Kept::new(alloc, self.as_str())?;
         Ok(Name { text })
     }
 

@@ -1,16 +1,21 @@
 //! `Units`, a text as a list of UTF-16 code units.
 
-ghost use Rattle.std.specs.Prelude.{◌≡◌, ◌≤◌, ◌<◌, ◌+◌, ◌^◌, ◌↔◌, length, vec_len, nat_eq, string_bytes, IsTrue, IfOk, OnOk, OnErr};
+ghost use Rattle.std.specs.Prelude.{◌≡◌, ◌≤◌, ◌<◌, ◌+◌, ◌^◌, ◌↔◌, [], length, nat_eq, string_bytes, IsTrue, IfOk, OnOk, OnErr};
 ghost use Rattle.std.specs.Str.{encode_utf8_all};
 ghost use Rattle.std.specs.Cmp.{partial_equiv_from_equiv};
 ghost use Rattle.std.specs.Cmp.Lexicographic.{pointwise, nat_list_eq_equiv};
+ghost use Rattle.smallvec.specs.SmallVec.{small_vec_len};
 ghost use Rattle.ot_units.specs.Text.{IsText, sanitized_units, exact_units, put_at, cut_at};
 
+use smallvec::SmallVec;
 use std::alloc::{AllocError, Global};
 use std::marker::Model;
 
 /// What stands for each unit of a supplementary character.
 const REPLACEMENT: u16 = 0xFFFD;
+
+/// How many units a text may have that takes no memory.
+const SHORT: usize = 8;
 
 /// The first character that needs two units of UTF-16.
 const FIRST_SUPPLEMENTARY: u32 = 0x1_0000;
@@ -21,7 +26,7 @@ const FIRST_SUPPLEMENTARY: u32 = 0x1_0000;
 /// Overleaf's editor.
 #[derive(Debug, Drop)]
 pub struct Units {
-    units: Vec<u16>,
+    units: SmallVec<u16, SHORT>,
 }
 
 impl Model for Units {
@@ -36,12 +41,21 @@ impl Model for Units {
 }
 
 impl Units {
+    /// The text without a unit.
+    pub fn empty(alloc: Global) -> Units
+        ensures { result ≡ [] }
+    {
+        Units {
+            units: SmallVec::new(alloc),
+        }
+    }
+
     /// The units of a text, each surrogate replaced by U+FFFD: a supplementary character becomes
     /// two of these, as in Overleaf's document-updater.
     pub fn sanitized(alloc: Global, text: &str) -> Result<Units, AllocError>
         ensures { IfOk result (λ made. made ≡ sanitized_units text.now) }
     {
-        let mut units = Vec::new(alloc);
+        let mut units = SmallVec::new(alloc);
         for c in text.chars() {
             let code = c as u32;
             if code < FIRST_SUPPLEMENTARY {
@@ -58,7 +72,7 @@ impl Units {
     pub fn exact(alloc: Global, text: &str) -> Result<Option<Units>, AllocError>
         ensures { IfOk result (λ made. made ≡ exact_units text.now) }
     {
-        let mut units = Vec::new(alloc);
+        let mut units = SmallVec::new(alloc);
         for c in text.chars() {
             let code = c as u32;
             if code >= FIRST_SUPPLEMENTARY {
@@ -74,7 +88,7 @@ impl Units {
         requires { IsText units.now }
         ensures { IfOk result (λ made. made ≡ units.now) }
     {
-        let units = Vec::from_slice(alloc, units)?;
+        let units = SmallVec::from_slice(alloc, units)?;
         Ok(Units { units })
     }
 
@@ -105,7 +119,7 @@ impl Units {
         ensures value { result ≡ length self.now }
         ensures small { result < 2 ^ 63 }
     {
-        self.units.len()
+        self.units.as_slice().len()
     }
 
     /// Whether the text has no unit.
@@ -145,22 +159,22 @@ impl Units {
 
 // Both edit the units themselves: while they do, these are in no order that is a text's.
 
-fn put_units(units: &mut Vec<u16>, at: usize, other: &[u16]) -> Result<(), AllocError>
-    requires { at ≤ vec_len units.old }
+fn put_units(units: &mut SmallVec<u16, SHORT>, at: usize, other: &[u16]) -> Result<(), AllocError>
+    requires { at ≤ small_vec_len units.old }
     ensures ok { OnOk result (units.new.items ≡ put_at units.old.items at other.now) }
     ensures err { OnErr result (units.new.items ≡ units.old.items) }
 {
     units.extend_from_slice(other)?;
-    units[at..].rotate_right(other.len());
+    units.as_mut_slice()[at..].rotate_right(other.len());
     Ok(())
 }
 
-fn cut_units(units: &mut Vec<u16>, at: usize, len: usize)
-    requires { at + len ≤ vec_len units.old }
+fn cut_units(units: &mut SmallVec<u16, SHORT>, at: usize, len: usize)
+    requires { at + len ≤ small_vec_len units.old }
     ensures { units.new.items ≡ cut_at units.old.items at len }
 {
     let kept = units.len() - len;
-    units[at..].rotate_left(len);
+    units.as_mut_slice()[at..].rotate_left(len);
     units.truncate(kept);
 }
 

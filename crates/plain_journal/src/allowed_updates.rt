@@ -1,7 +1,7 @@
 //! Whether an update may be sent without a client, and what may be committed of one.
 
 ghost use Rattle.std.specs.Prelude.{◌≡◌, ◌↔◌, ◌≤◌, ◌⊎◌, IsTrue, IfOk, Some, All, sum_by, min, ◌^◌, ◌-◌};
-ghost use Rattle.ot_op.specs.Operation.{place, units_of};
+ghost use Rattle.ot_op.specs.Operation.{IsWithinLimits, place, units_of};
 ghost use Rattle.ot_op.specs.declared.limits.TheConstants.{MAX_PLACE};
 ghost use Rattle.journal_rules.specs.Legal as rules;
 ghost use Rattle.journal_rules.specs.Documents.{waiting as waiting_lem};
@@ -50,8 +50,8 @@ pub(crate) fn place_of(comp: &Comp) -> u32
     }
 }
 
-fn is_raw(op: &Op) -> bool
-    ensures { IsTrue result ↔ rules.IsRaw op.now }
+fn is_within_limits(op: &Op) -> bool
+    ensures { IsTrue result ↔ IsWithinLimits op.now }
 {
     let comps = op.comps();
     comps.len() as u64 <= MAX_COMPONENTS
@@ -67,7 +67,7 @@ pub(crate) fn is_raw_update(before: &[Entry], update: &Update) -> bool
         && update.number == 0
         && update.source <= MAX_RAW_SOURCE
         && update.ms == clock(before)
-        && is_raw(&update.op)
+        && is_within_limits(&update.op)
 }
 
 fn is_same_comp(one: &Comp, other: &Comp) -> bool

@@ -21,9 +21,6 @@ use Rattle.project_histories.proofs.Lists.{same_item}
 abbrev pub AreApart : List (List ℕ) → Type 0
 AreApart ns = (a b : ℕ) (x : List ℕ) → slice_get ns a ≡ Some x → slice_get ns b ≡ Some x → a ≡ b
 
-same_bytes : (x : List ℕ) → bytes_eq x x ≡ true
-same_bytes x = (bytes_eq-Decides x x).1 refl
-
 absent : (p : List ℕ) (ns : List (List ℕ)) (i : ℕ) → list_any (bytes_eq p) ns ≡ false → slice_get ns i ≡ Some p → ⊥
 absent p [] i none at = absurd (cc)
 absent p (n ∷ ns) zero none at =

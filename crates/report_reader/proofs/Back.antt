@@ -17,9 +17,6 @@ use Rattle.report_reader.proofs.Fine.{AreFine}
 use Rattle.report_reader.proofs.FineLines.{entry_fine}
 use Rattle.report_reader.proofs.LineBack.{shown}
 
-same_bytes : (s : List ℕ) → bytes_eq s s ≡ true
-same_bytes s = (bytes_eq-Decides s s).1 refl
-
 value_back : (ms : Members) → AreFine 4 ms → value_of (compact_text (object ms)) ≡ Some (object ms)
 value_back ms fine = let s = fine.shallow in line_back (object ms) fine.formed fine.texts (omega (arith, s))
 
@@ -29,7 +26,7 @@ written_back p fine shows =
     let line = compact_text (object (piece_members p)) in
     ap (λ v. and_then (and_then v shown_by) (if_written line)) (value_back (piece_members p) fine)
     ∙ ap (λ s. and_then s (if_written line)) shows
-    ∙ ap (λ b. if b then Some p else None) (same_bytes line)
+    ∙ ap (λ b. if b then Some p else None) ((bytes_eq-Decides line line).1 refl)
 
 pub piece_fine : (p : Piece) → IsTyped p → AreFine 4 (piece_members p)
 piece_fine (Entry e) t = entry_fine e t

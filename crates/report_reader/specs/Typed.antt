@@ -5,8 +5,8 @@ use Rattle.ot_units.specs.Text.{IsText, is_name}
 use Rattle.ot_op.specs.declared.comp.Comp.{Comp}
 use Rattle.ot_op.specs.declared.fault.FormFault.{FormFault}
 use Rattle.ot_op.specs.declared.fault.FormFault.TheVariants.{Form, Supplementary, TooLarge}
-use Rattle.ot_op.specs.Operation.{IsOp}
-use Rattle.ot_json.specs.Grammar.{AreInReach, IsComponent}
+use Rattle.ot_op.specs.Operation.{IsOp, AreInReach}
+use Rattle.ot_json.specs.Grammar.{IsComponent}
 use Rattle.expiring_lock.specs.declared.refusal.Stale.{Stale}
 use Rattle.expiring_lock.specs.declared.refusal.Stale.TheVariants as stale
 use Rattle.history_queue.specs.declared.item.Item.{Item}

@@ -23,6 +23,10 @@ pub record Crew : Type 0 where
   pub drivers : ℕ
   pub workers : ℕ
 
+-- one driver, and so many workers
+abbrev pub with_workers : ℕ → Crew
+with_workers workers = record { drivers = 1; workers = workers }
+
 -- the seats: seat 0 makes the documents and ends the run, then come the drivers (`driver_seat`), the workers and the flusher
 abbrev pub worker_seat : Crew → ℕ → ℕ
 worker_seat crew worker = 1 + crew.drivers + worker

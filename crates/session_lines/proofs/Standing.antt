@@ -7,7 +7,7 @@ use Rattle.serde_json.specs.Data.{Data}
 use Rattle.serde_json.specs.Find.{get}
 use Rattle.json_lines.specs.Lines.{lines_of, onto_first, value_of}
 use Rattle.json_lines.specs.Reading.{has_key, key_count, number_at, text_at, whole_at}
-use Rattle.ot_json.specs.Grammar.{IsWithinLimits}
+use Rattle.ot_op.specs.Operation.{IsWithinLimits}
 use Rattle.ot_json.proofs.Given.{IfGiven, given_then, given_with, given_map, given_choice, given_where, whole_given}
 use Rattle.ot_json.proofs.Limits.{operation_within}
 use Rattle.session_lines.specs.Command.{command_of}

@@ -1,7 +1,7 @@
 -- What is known of the lines of a script that was read.
 use Rattle.std.specs.Prelude.{◌≡◌, ◌≢◌, ◌<◌, ◌≤◌, ℕ, ◌+◌, ◌*◌, nat_lt, Bool, true, List, [], ◌∷◌, ◌++◌, length, sum_by, Option, Some, None, IfOk, ⊤}
 use Rattle.std.specs.List.{list_all}
-use Rattle.ot_json.specs.Grammar.{IsWithinLimits}
+use Rattle.ot_op.specs.Operation.{IsWithinLimits}
 use Rattle.session_lines.specs.Script.{may_follow, session_of}
 use Rattle.session_lines.specs.declared.line.Line.{Line}
 use Rattle.session_lines.specs.declared.line.Line.TheVariants.{Doc, Tick, Raw, Ins, Del}

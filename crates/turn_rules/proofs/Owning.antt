@@ -1,5 +1,5 @@
 -- Journals whose entries are each by an owner: how they grow, and that an owner knows what is written for its clients.
-use Rattle.std.proofs.Common.{◌≡◌, ◌≢◌, ◌⊎◌, inl, inr, ℕ, zero, suc, ◌<◌, ◌==◌, List, [], ◌∷◌, ◌++◌, length, Bool, true, false, not, ◌||◌, true≢false, refl, sym, ap, ap₂, ◌∙◌, subst, arith, eqb, eq-eqb, eqb-true, append-nil, append_assoc, length-append}
+use Rattle.std.proofs.Common.{◌≡◌, ◌≢◌, ◌⊎◌, inl, inr, ℕ, zero, suc, ◌<◌, ◌==◌, List, [], ◌∷◌, ◌++◌, length, Bool, true, false, not, ◌||◌, true≢false, refl, sym, ap, ap₂, ◌∙◌, subst, arith, eqb, eq-eqb, eqb-true, ne_eqb, append-nil, append_assoc, length-append}
 use Rattle.std.specs.Prelude.{Option, Some, None, if◌then◌else◌}
 use Rattle.std.specs.List.{list_all}
 use Rattle.std.proofs.lemmas.Bool.Decides.{eqb_tells}
@@ -97,13 +97,9 @@ own_closing {drivers} before seat driver own = record {
 -- ---- what an owner knows
 -- an entry of another client leaves a client
 other_test : (c k : ℕ) → (Some k ≡ Some c → ⊥) → eqb k c ≡ false
-other_test c k apart = go (eqb k c) refl
-  where
-    go : (b : Bool) → eqb k c ≡ b → eqb k c ≡ false
-    go true is = absurd (apart (ap (λ n. Some n) (eqb-true k c is)))
-    go false is = is
+other_test c k apart = ne_eqb k c (λ same. apart (ap (λ (n : ℕ). Some n) same))
 
-other_client : (c : ℕ) (o : Option ℕ) → (o ≡ Some c → ⊥) → is_of c o ≡ false
+pub other_client : (c : ℕ) (o : Option ℕ) → (o ≡ Some c → ⊥) → is_of c o ≡ false
 other_client c None apart = refl
 other_client c (Some k) apart = other_test c k apart
 

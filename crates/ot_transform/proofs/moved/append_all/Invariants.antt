@@ -2,6 +2,6 @@ use Rattle.std.proofs.Common.{◌≡◌}
 use Rattle.ot_op.specs.Compose.{composed}
 use Rattle.ot_transform.proofs.moved.append_all.Given as goal
 
--- the components so far are appended
+-- what is left, appended to what is made, makes the whole
 abbrev pub invariant-loop-comp : goal.invariant-loop-comp
-invariant-loop-comp l = l.op ≡ composed l.initial.op l.yielded
+invariant-loop-comp l = composed l.op l.comp-iterator ≡ composed l.initial.op l.fn.comps.items

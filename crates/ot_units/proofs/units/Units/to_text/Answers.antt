@@ -5,5 +5,5 @@ use Rattle.ot_units.proofs.units.Units.to_text.Goals as goal
 
 pub returns : goal.returns
 returns c =
-    let e : utf16_lossy_chars c.as_slice.result.now ≡ c.args.self.now = ap utf16_lossy_chars (c.as_slice.ensures.value) ∙ lossy_is _ c.self.invariant ∙ c.self.view_is in
+    let e : utf16_lossy_chars c.as_slice.result.now ≡ c.args.self.now = ap utf16_lossy_chars c.as_slice.ensures ∙ lossy_is _ c.self.invariant ∙ c.self.view_is in
     rw (← e) c.from_utf16_lossy.ensures
