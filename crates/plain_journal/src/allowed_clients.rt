@@ -1,7 +1,8 @@
 //! Whether a client may join, edit, send, get and leave.
 
-ghost use Rattle.std.specs.Prelude.{◌≡◌, ◌↔◌, ◌⊎◌, ◌<◌, ◌≤◌, ◌+◌, ◌-◌, ◌^◌, length, IsTrue, IfOk, Some};
+ghost use Rattle.std.specs.Prelude.{◌≡◌, ◌↔◌, ◌⊎◌, ◌<◌, ◌≤◌, ◌+◌, ◌-◌, ◌^◌, false, true, length, is_some, IsTrue, IfOk, Some};
 ghost use Rattle.ot_op.specs.Operation.{total_units};
+ghost use Rattle.ot_op.specs.Operation.{is_void};
 ghost use Rattle.journal_rules.specs.declared.state.ClientState.TheVariants as state;
 ghost use Rattle.journal_rules.specs.Client as clients;
 ghost use Rattle.journal_rules.specs.Legal as rules;
@@ -23,7 +24,7 @@ use crate::mail::{brief_of, mail_of};
 use journal_entries::{Brief, Entry, FIRST_SOURCE, MAX_AGE, MAX_ENTRIES, Update};
 use journal_rules::ClientState;
 use ot_op::{Comp, MAX_COMPONENTS, MAX_OPERATION_UNITS, Op, append};
-use ot_units::Name;
+use ot_units::{Name, Units};
 use std::alloc::{AllocError, Global};
 
 fn source_at(before: &[Entry]) -> u64
@@ -157,7 +158,14 @@ pub(crate) fn is_edit(
     let now = client_of(alloc, before, client)?;
     let text = applied(alloc, &now.text, comp)?;
     let pending = appended(alloc, &now.pending, comp)?;
-    Ok(is_joined(&now) && !comp.is_void() && text.is_some() && is_within_limits(&pending))
+    Ok(allows_edit(&now, comp, &text, &pending))
+}
+
+// Whether a client may edit, where its edit makes this of its text and of what it has pending.
+fn allows_edit(now: &Client, comp: &Comp, text: &Option<Units>, pending: &Op) -> bool
+    ensures { IsTrue result ↔ ((now.now.state ≡ state.Joined) × (is_void comp.now ≡ false) × (is_some text.now ≡ true) × (length pending.now ≤ most_components) × (total_units pending.now ≤ most_units)) }
+{
+    is_joined(now) && !comp.is_void() && text.is_some() && is_within_limits(pending)
 }
 
 // Whether an update is what a client sends of an operation, under a number.

@@ -182,6 +182,12 @@ pub fn briefs(alloc: Global, journal: &[Entry], client: u32) -> Result<Vec<Brief
     ensures { IfOk result (λ made. made.items ≡ map brief_of_lem (rules.mail client journal.now)) }
 {
     let mail = mail_of(alloc, journal, client)?;
+    briefs_of(alloc, &mail)
+}
+
+fn briefs_of(alloc: Global, mail: &[Msg]) -> Result<Vec<Brief>, AllocError>
+    ensures { IfOk result (λ made. made.items ≡ map brief_of_lem mail.now) }
+{
     mail.iter().map(|msg| brief_of(msg)).collect(alloc)
 }
 

@@ -58,4 +58,4 @@ returns c =
     let scan_is = ap scan_as (sym c.in-Moved.is) ∙ c.in_ok-v.ensures ∙ ap (scanned u.dup u.op) (passed_is j d u.v (u.v - c.in_ok-first.first) c.deref.result.now xs c.deref.ensures.value c.in_ok-items.ensures at) in
     let same = ap₂ (λ v (t : Option (List ℕ)). concluded v t (Moved c.in-Moved.op)) have c.in_ok-text-in-Moved.ensures in
     let is : concluded c.in_ok-have.have c.in_ok-text-in-Moved.field-0 (Moved c.in-Moved.op) ≡ decided j d u = same ∙ decided_is j d u (Moved c.in-Moved.op) (omega (arith, first)) (omega (arith, have)) (omega (arith, have)) scan_is in
-    subst (λ (o : Outcome). IfOk c.fitted.result (λ outcome. outcome ≡ o)) is c.fitted.ensures
+    subst (λ (o : Outcome). IfOk c.fitted-in-Moved.result (λ outcome. outcome ≡ o)) is c.fitted-in-Moved.ensures
