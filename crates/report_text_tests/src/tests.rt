@@ -40,27 +40,36 @@ fn is_line(alloc: Global, act: Act, items: &[Item], want: &str) -> Result<bool, 
     Ok(line.strip_suffix(b"\n") == Some(want.as_str().as_bytes()))
 }
 
-#[test]
-fn writes_entries_of_updates(rt: HostRuntime) -> Result<(), Fail> {
-    let alloc = rt.alloc();
-    let made = Act::Made {
+// The making of a document.
+fn made(alloc: Global) -> Result<Act, Fail> {
+    Ok(Act::Made {
         doc: 3,
         name: name(alloc, "a")?,
         project: name(alloc, "p")?,
         first: Units::sanitized(alloc, "a\"b")?,
         base: 5,
-    };
+    })
+}
+
+#[test]
+fn writes_documents_that_are_made(rt: HostRuntime) -> Result<(), Fail> {
+    let alloc = rt.alloc();
     assert!(rt;
         is_line(
             alloc,
-            made,
+            made(alloc)?,
             &[],
             "{'b':1,'base':5,'doc':3,'e':'made','line':9,'n':7,'name':'a','project':'p','seat':2,'text':'a\\'b'}"
         )?
     );
+    Ok(())
+}
+
+// An update that is sent.
+fn sent(alloc: Global) -> Result<Act, Fail> {
     let mut dup = Sources::new(alloc);
     dup.push(1_000_001)?;
-    let sent = Act::Sent {
+    Ok(Act::Sent {
         update: Update {
             doc: 0,
             client: Some(3),
@@ -73,11 +82,16 @@ fn writes_entries_of_updates(rt: HostRuntime) -> Result<(), Fail> {
             v: 2,
             op: insert(alloc, 1, "X")?,
         },
-    };
+    })
+}
+
+#[test]
+fn writes_updates_that_are_sent(rt: HostRuntime) -> Result<(), Fail> {
+    let alloc = rt.alloc();
     assert!(rt;
         is_line(
             alloc,
-            sent,
+            sent(alloc)?,
             &[],
             "{'b':1,'client':3,'doc':0,'dup':[1000001],'e':'sent','line':9,'ms':11,'n':7,'number':1,'op':[{'i':'X','p':1}],'seat':2,'source':1000004,'track':true,'user':'u','v':2}"
         )?
@@ -94,31 +108,54 @@ fn writes_entries_of_updates(rt: HostRuntime) -> Result<(), Fail> {
             "{'b':1,'comps':1001,'doc':0,'e':'malformed','fault':'too-large','line':9,'n':7,'seat':2,'units':1002}"
         )?
     );
-    let outcomes = [
-        (
-            Outcome::Applied {
-                v: 5,
-                op: insert(alloc, 1, "X")?,
-            },
-            "'n':7,'op':[{'i':'X','p':1}],'out':'applied','seat':2,'ticket':3,'token':4,'v':5}",
-        ),
-        (
-            Outcome::Dup { v: 5 },
-            "'n':7,'out':'dup','seat':2,'ticket':3,'token':4,'v':5}",
-        ),
-    ];
-    for (outcome, back) in outcomes {
-        let act = Act::Committed {
-            doc: 0,
-            token: 4,
-            ticket: 3,
-            outcome,
-        };
-        let mut want = String::from_str(alloc, "{'b':1,'doc':0,'e':'committed','line':9,")?;
-        want.push_str(back)?;
-        assert!(rt; is_line(alloc, act, &[], want.as_str())?);
-    }
     Ok(())
+}
+
+// Whether a commit of this outcome is written as a line that ends so.
+fn is_committed(alloc: Global, outcome: Outcome, back: &str) -> Result<bool, Fail> {
+    let act = Act::Committed {
+        doc: 0,
+        token: 4,
+        ticket: 3,
+        outcome,
+    };
+    let mut want = String::from_str(alloc, "{'b':1,'doc':0,'e':'committed','line':9,")?;
+    want.push_str(back)?;
+    is_line(alloc, act, &[], want.as_str())
+}
+
+// An operation that was applied.
+fn applied(alloc: Global) -> Result<Outcome, Fail> {
+    Ok(Outcome::Applied {
+        v: 5,
+        op: insert(alloc, 1, "X")?,
+    })
+}
+
+#[test]
+fn writes_outcomes(rt: HostRuntime) -> Result<(), Fail> {
+    let alloc = rt.alloc();
+    let back = "'n':7,'op':[{'i':'X','p':1}],'out':'applied','seat':2,'ticket':3,'token':4,'v':5}";
+    assert!(rt; is_committed(alloc, applied(alloc)?, back)?);
+    let back = "'n':7,'out':'dup','seat':2,'ticket':3,'token':4,'v':5}";
+    assert!(rt; is_committed(alloc, Outcome::Dup { v: 5 }, back)?);
+    Ok(())
+}
+
+// Whether a refusal for a cause is written as a line with this title and these members.
+fn is_refused(alloc: Global, cause: Cause, title: &str, members: &str) -> Result<bool, Fail> {
+    let act = Act::Committed {
+        doc: 0,
+        token: 4,
+        ticket: 3,
+        outcome: Outcome::Refused(cause),
+    };
+    let mut want = String::from_str(alloc, "{'b':1,'cause':")?;
+    want.push_str(title)?;
+    want.push_str(",'doc':0,'e':'committed',")?;
+    want.push_str(members)?;
+    want.push_str("'n':7,'out':'refused','seat':2,'ticket':3,'token':4}")?;
+    is_line(alloc, act, &[], want.as_str())
 }
 
 #[test]
@@ -133,18 +170,7 @@ fn writes_causes(rt: HostRuntime) -> Result<(), Fail> {
         (Cause::Memory, "'memory'", "'line':9,"),
     ];
     for (cause, title, members) in causes {
-        let act = Act::Committed {
-            doc: 0,
-            token: 4,
-            ticket: 3,
-            outcome: Outcome::Refused(cause),
-        };
-        let mut want = String::from_str(alloc, "{'b':1,'cause':")?;
-        want.push_str(title)?;
-        want.push_str(",'doc':0,'e':'committed',")?;
-        want.push_str(members)?;
-        want.push_str("'n':7,'out':'refused','seat':2,'ticket':3,'token':4}")?;
-        assert!(rt; is_line(alloc, act, &[], want.as_str())?, "of {title}");
+        assert!(rt; is_refused(alloc, cause, title, members)?, "of {title}");
     }
     Ok(())
 }
