@@ -1,12 +1,10 @@
 //! The end of a run: the driver closes, every lock expires, all that waits is drained, the clients catch
 //! up, and each document that needs it is put into the keeper.
 
-ghost use Rattle.std.specs.Prelude.{◌≡◌, ◌+◌, ◌≤◌, ◌++◌, ◌∷◌, [], ℕ, length, map, OnOk, IfErr, Some, None};
-ghost use Rattle.expiring_lock.specs.declared.lock.TheConstants.{LOCK_LIFE};
+ghost use Rattle.std.specs.Prelude.{◌≡◌, ◌++◌, ◌∷◌, [], ℕ, length, map, OnOk, IfErr, Some, None};
 ghost use Rattle.journal_entries.specs.declared.act.Act.TheVariants.{Closed};
 ghost use Rattle.journal_rules.specs.Documents.{IsMade, makings, waiting};
-ghost use Rattle.journal_rules.specs.Legal.{clock_end, closed};
-ghost use Rattle.journal_rules.specs.Locks.{clock};
+ghost use Rattle.journal_rules.specs.Legal.{closed};
 ghost use Rattle.ending_rules.specs.Rounds.{any_below, has_any, is_unfinished as is_unfinished_lem, needs_round as needs_round_lem};
 ghost use Rattle.turn_rules.specs.Clients.{is_joined as is_joined_lem};
 ghost use Rattle.turn_rules.specs.Locking.{busy};
@@ -37,8 +35,8 @@ const AT_END: By = By {
 /// Three rounds suffice for all that a run may leave.
 const MAX_ROUNDS: u32 = 3;
 
-/// Ends a run of one driver that did its lines, whose sessions have these clients. The only error is
-/// want of memory.
+/// Ends a run of one driver that did its lines, whose sessions have these clients: the driver closes, and
+/// what [`end_closed`] does. The only error is want of memory, or that the clock is at its end.
 pub fn end_run<K: Keeper>(
     alloc: Global,
     book: &mut Book<K>,
@@ -47,13 +45,30 @@ pub fn end_run<K: Keeper>(
     requires drivers { book.old.drivers ≡ 0 }
     requires closed { closed book.old.journal ≡ [] }
     requires clients { AreClientsOf clients.old.items book.old.journal }
-    requires low { clock book.old.journal + LOCK_LIFE ≤ clock_end }
     ensures ends { OnOk result (Ends (length clients.old.items) (book.old.journal ++ entry_by 0 None (Closed 0) ∷ []) book.new.journal) }
     ensures clients { OnOk result (AreClientsOf clients.new.items book.new.journal) }
     ensures sessions { OnOk result (length clients.new.items ≡ length clients.old.items) }
     ensures goes_on { OnOk result (GoesOn K.tells book.old book.new) }
 {
     book.close_driver(AT_END, 0);
+    end_closed(alloc, book, clients)
+}
+
+/// Ends a run of which seat 0 may write for all clients, as it may once each driver has closed: every lock
+/// expires, there are rounds as long as one is needed, and each document is flushed that needs it. The
+/// only error is want of memory, or that the clock is at its end.
+pub fn end_closed<K: Keeper>(
+    alloc: Global,
+    book: &mut Book<K>,
+    clients: &mut Vec<ShareClient>,
+) -> Result<(), AllocError>
+    requires ends { MayEnd book.old.drivers book.old.journal }
+    requires clients { AreClientsOf clients.old.items book.old.journal }
+    ensures ends { OnOk result (Ends (length clients.old.items) book.old.journal book.new.journal) }
+    ensures clients { OnOk result (AreClientsOf clients.new.items book.new.journal) }
+    ensures sessions { OnOk result (length clients.new.items ≡ length clients.old.items) }
+    ensures goes_on { OnOk result (GoesOn K.tells book.old book.new) }
+{
     tick(book, AT_END, LOCK_LIFE)?;
     book.legal();
     go_rounds(alloc, book, clients)?;

@@ -13,6 +13,8 @@ use Rattle.book.specs.Going.{with_journal}
 use Rattle.book.specs.Shown.{Shown, adds}
 use Rattle.share_client.specs.Clients.{Numbered}
 use Rattle.script_driver.specs.Clients.{GoesQuietly}
+use Rattle.script_driver.specs.Failing.{GoesByOwn}
+use Rattle.script_driver.proofs.Failing.{added_own}
 use Rattle.client_lines.proofs.Declining.{got_none}
 use Rattle.journal_rules.proofs.Lists.{some_same}
 use Rattle.script_driver.proofs.Quiet.{quiet_one}
@@ -63,6 +65,9 @@ module _ (seat : ℕ) (line : Option ℕ) (was now : Numbered) (left last : Show
 
   pub gets_rest : last ≡ with_journal left last.journal
   gets_rest = let one = some_of (λ msg. last ≡ adds left seat line (Got now.client (brief_of msg) ∷ [])) o m is got in one ∙ ap (λ (b : Shown). with_journal left b.journal) (sym one)
+
+  pub gets_own : GoesByOwn seat left last
+  gets_own = added_own seat left last line (Got now.client (brief_of m)) refl (some_of (λ msg. last ≡ adds left seat line (Got now.client (brief_of msg) ∷ [])) o m is got)
 
 -- and none more
 pub gets_none : (seat : ℕ) (line : Option ℕ) (c : ℕ) (j k : List Entry) (o : Option Msg) → is_some o ≡ false → o ≡ slice_get (mail c j) 0 → k ≡ j → Gets (entry_by seat line) Alone c j k

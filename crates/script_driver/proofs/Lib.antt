@@ -7,6 +7,8 @@ pub mod Getting
 pub mod Handing
 pub mod Owning
 pub mod Lines
+pub mod Made
+pub mod Failing
 pub mod Resting
 pub mod Flushes
 pub mod Finishing

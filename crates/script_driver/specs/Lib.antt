@@ -4,3 +4,5 @@ pub mod Apart
 pub mod Syncing
 pub mod Handing
 pub mod Holding
+pub mod Making
+pub mod Failing

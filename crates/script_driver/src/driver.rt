@@ -1,6 +1,6 @@
 //! A driver of a run: it does its lines of a script in order.
 
-ghost use Rattle.std.specs.Prelude.{◌≡◌, ◌+◌, ◌<◌, ◌≤◌, ◌^◌, ◌-◌, ◌∷◌, [], ℕ, true, length, slice_get, slice_set, sum_by, IfOk, OnOk, None, Some, Option, is_some, All};
+ghost use Rattle.std.specs.Prelude.{◌≡◌, ◌+◌, ◌<◌, ◌≤◌, ◌^◌, ◌-◌, ◌∷◌, [], ℕ, true, length, slice_get, slice_set, sum_by, IfOk, OnErr, OnOk, None, Some, Option, is_some, All};
 ghost use Rattle.book.specs.Calls.{raw_act};
 ghost use Rattle.book.specs.Going.{GoesOn, with_journal};
 ghost use Rattle.book.specs.Shown.{adds};
@@ -8,7 +8,7 @@ ghost use Rattle.book.specs.declared.faults.Prepared.{Prepared};
 ghost use Rattle.journal_entries.specs.declared.act.Act.TheVariants.{Made, Ticked};
 ghost use Rattle.journal_rules.specs.Deciding.{longest};
 ghost use Rattle.journal_rules.specs.Documents.{IsMade, makings, number_of};
-ghost use Rattle.journal_rules.specs.Legal.{clock_end, closed, highest_base};
+ghost use Rattle.journal_rules.specs.Legal.{closed, highest_base};
 ghost use Rattle.ot_op.specs.Operation.{IsWithinLimits};
 ghost use Rattle.journal_rules.specs.Locks.{clock, next_token};
 ghost use Rattle.session_lines.specs.Script.{session_of};
@@ -25,6 +25,7 @@ ghost use Rattle.share_client.specs.Clients.{Numbered};
 ghost use Rattle.client_lines.specs.Lines.{IsDoable, client_act};
 ghost use Rattle.journal_rules.specs.Client.{away as away_lem};
 ghost use Rattle.std.specs.Global.{Vec};
+ghost use Rattle.script_driver.specs.Failing.{GoesByOwn};
 ghost use Rattle.script_driver.specs.Fitting.{AreBuilt, AreFit, IsFit, is_built};
 ghost use Rattle.script_driver.specs.Handing.{items_handed};
 ghost use Rattle.script_driver.specs.Holding.{IsDriver, empty_book, kept_in};
@@ -76,7 +77,6 @@ pub fn do_lines<K: Keeper>(
     requires fit { AreFit [] lines.items }
     requires built { AreBuilt lines.items }
     requires numbered { AreBySessions sessions lines.items }
-    requires slow { sum_by moved_by lines.items ≤ clock_end }
     requires few { length lines.items < 2 ^ 32 - 1 }
     ensures leads { IfOk result (λ left. Leads 0 Alone (numbered 1 lines.items) nothing_kept [] left.book.journal) }
     ensures goes_on { IfOk result (λ left. GoesOn K.tells (empty_book (K.documents keeper) (K.count keeper)) left.book) }
@@ -142,20 +142,21 @@ impl<K: Keeper> Driver<K> {
         keeper
     }
 
-    // Does the line of this number.
+    /// Does the line of this number. The only error is want of memory, or that the clock is at its end: the
+    /// book has the entries then that the line made before that.
     pub fn do_line(&mut self, alloc: Global, number: u32, line: Line) -> Result<(), AllocError>
         requires driver { IsDriver self.old }
         requires fit { IsFit (makings self.old.book.journal) line }
         requires built { is_built line ≡ true }
         requires numbered { is_one_of (length self.old.holds.items) (session_of line) ≡ true }
         requires owned { (session : ℕ) → session_of line ≡ Some session → client_owner self.old.book.drivers session ≡ self.old.seat }
-        requires low { clock self.old.book.journal + moved_by line ≤ clock_end }
         ensures does { OnOk result (Does self.old.seat Alone number line (kept_in self.old.holds.items) self.old.book.journal self.new.book.journal (kept_in self.new.holds.items)) }
         ensures driver { OnOk result (IsDriver self.new) }
         ensures sessions { OnOk result (length self.new.holds.items ≡ length self.old.holds.items) }
         ensures behind { OnOk result (IsBehind line self.old.book.journal self.new.book.journal) }
         ensures goes_on { OnOk result (GoesOn K.tells self.old.book self.new.book) }
         ensures seat { OnOk result (self.new.seat ≡ self.old.seat) }
+        ensures failed { OnErr result (GoesByOwn self.old.seat self.old.book self.new.book) }
     {
         let by = By {
             seat: self.seat,
@@ -259,6 +260,7 @@ impl<K: Keeper> Driver<K> {
         ensures seat { self.new.seat ≡ self.old.seat }
         ensures quiet { OnOk result (GoesQuietly session self.old.book.journal self.new.book.journal) }
         ensures rest { OnOk result (self.new.book ≡ with_journal self.old.book self.new.book.journal) }
+        ensures failed { OnErr result (GoesByOwn self.old.seat self.old.book self.new.book) }
     {
         let Some(client) = self.clients.get_mut(session as usize) else {
             unreachable!()
@@ -279,6 +281,7 @@ impl<K: Keeper> Driver<K> {
         ensures seat { self.new.seat ≡ self.old.seat }
         ensures quiet { OnOk result (GoesQuietly session self.old.book.journal self.new.book.journal) }
         ensures rest { OnOk result (self.new.book ≡ with_journal self.old.book self.new.book.journal) }
+        ensures failed { OnErr result (GoesByOwn self.old.seat self.old.book self.new.book) }
     {
         let Some(client) = self.clients.get_mut(session as usize) else {
             unreachable!()
@@ -298,6 +301,7 @@ impl<K: Keeper> Driver<K> {
         ensures seat { self.new.seat ≡ self.old.seat }
         ensures goes { OnOk result (GoesApartThenQuietly (next_token self.old.book.journal) session self.old.book.journal self.new.book.journal) }
         ensures rest { OnOk result (self.new.book ≡ with_journal self.old.book self.new.book.journal) }
+        ensures failed { OnErr result (GoesByOwn self.old.seat self.old.book self.new.book) }
     {
         let Some(client) = self.clients.get_mut(session as usize) else {
             unreachable!()
@@ -321,6 +325,7 @@ impl<K: Keeper> Driver<K> {
         ensures seat { OnOk result (self.new.seat ≡ self.old.seat) }
         ensures apart { OnOk result (GoesApart (next_token self.old.book.journal) self.old.book.journal self.new.book.journal) }
         ensures rest { OnOk result (self.new.book ≡ with_journal self.old.book self.new.book.journal) }
+        ensures failed { OnErr result (GoesByOwn self.old.seat self.old.book self.new.book) }
     {
         let by = By {
             seat: self.seat,
@@ -356,6 +361,7 @@ impl<K: Keeper> Driver<K> {
         ensures seat { OnOk result (self.new.seat ≡ self.old.seat) }
         ensures apart { OnOk result (GoesApart 0 self.old.book.journal self.new.book.journal) }
         ensures rest { OnOk result (self.new.book ≡ with_journal self.old.book self.new.book.journal) }
+        ensures failed { OnErr result (GoesByOwn self.old.seat self.old.book self.new.book) }
     {
         let by = By {
             seat: self.seat,
@@ -386,6 +392,7 @@ impl<K: Keeper> Driver<K> {
         ensures driver { OnOk result (IsDriver self.new) }
         ensures holds { self.new.holds ≡ self.old.holds }
         ensures seat { self.new.seat ≡ self.old.seat }
+        ensures failed { OnErr result (GoesByOwn self.old.seat self.old.book self.new.book) }
     {
         match self.book.hand_history(by, project, n as u64) {
             Ok(mut items) => self.handed.append(&mut items),
@@ -395,8 +402,8 @@ impl<K: Keeper> Driver<K> {
     }
 }
 
-// So many sessions that keep nothing.
-fn no_holds(alloc: Global, sessions: u32) -> Result<Vec<Option<Prepared>>, AllocError>
+/// So many sessions that keep nothing.
+pub fn no_holds(alloc: Global, sessions: u32) -> Result<Vec<Option<Prepared>>, AllocError>
     ensures many { IfOk result (λ (made : Vec (Option Prepared)). length made.items ≡ sessions) }
     ensures nothing { IfOk result (λ (made : Vec (Option Prepared)). All (λ kept. kept ≡ None) made.items) }
 {
@@ -407,8 +414,8 @@ fn no_holds(alloc: Global, sessions: u32) -> Result<Vec<Option<Prepared>>, Alloc
     Ok(holds)
 }
 
-// So many clients that never joined, numbered from 0.
-fn away_clients(alloc: Global, sessions: u32) -> Result<Vec<ShareClient>, AllocError>
+/// So many clients that never joined, numbered from 0.
+pub fn away_clients(alloc: Global, sessions: u32) -> Result<Vec<ShareClient>, AllocError>
     ensures many { IfOk result (λ (made : Vec Numbered). length made.items ≡ sessions) }
     ensures away { IfOk result (λ (made : Vec Numbered). (c : ℕ) (x : Numbered) → slice_get made.items c ≡ Some x → x ≡ record { client = c; now = away_lem }) }
 {
@@ -445,7 +452,7 @@ fn give_up(holds: &mut Vec<Option<Prepared>>, session: u32) -> Option<Prepared>
 }
 
 // Makes a document, whose name is new.
-fn make<K: Keeper>(
+pub(crate) fn make<K: Keeper>(
     book: &mut Book<K>,
     by: By,
     name: &Name,
@@ -457,7 +464,8 @@ fn make<K: Keeper>(
     requires short { length first.now ≤ longest }
     requires low { base ≤ highest_base }
     requires new { number_of name.now book.old.journal ≡ None }
-    ensures { OnOk result (book.new ≡ adds book.old by.seat by.line (Made (length (makings book.old.journal)) name.now project.now first.now base ∷ [])) }
+    ensures ok { OnOk result (book.new ≡ adds book.old by.seat by.line (Made (length (makings book.old.journal)) name.now project.now first.now base ∷ [])) }
+    ensures kept { OnErr result (book.new ≡ book.old) }
 {
     match book.make_doc(by, name, project, first, base) {
         Ok(_) => Ok(()),
@@ -466,15 +474,15 @@ fn make<K: Keeper>(
     }
 }
 
-/// The clock goes on, which doesn't come to its end.
+/// The clock goes on. At its end it can't: that is told as want of memory is, and nothing was done.
 pub fn tick<K: Keeper>(book: &mut Book<K>, by: By, ms: u64) -> Result<(), AllocError>
-    requires { clock book.old.journal + ms ≤ clock_end }
-    ensures { OnOk result (book.new ≡ adds book.old by.seat by.line (Ticked ms ∷ [])) }
+    ensures ok { OnOk result (book.new ≡ adds book.old by.seat by.line (Ticked ms ∷ [])) }
+    ensures kept { OnErr result (book.new ≡ book.old) }
 {
     match book.tick(by, ms) {
         Ok(()) => Ok(()),
         Err(TickFault::Memory) => Err(AllocError),
-        Err(TickFault::ClockEnd { .. }) => unreachable!(),
+        Err(TickFault::ClockEnd { .. }) => Err(AllocError),
     }
 }
 
@@ -483,7 +491,8 @@ fn send_raw<K: Keeper>(book: &mut Book<K>, by: By, raw: &RawUpdate) -> Result<()
     requires made { IsMade raw.now.doc book.old.journal }
     requires source { raw.now.source ≤ 999999 }
     requires within { IfOk raw.now.op IsWithinLimits }
-    ensures { OnOk result (book.new ≡ adds book.old by.seat by.line (raw_act (clock book.old.journal) raw.now ∷ [])) }
+    ensures ok { OnOk result (book.new ≡ adds book.old by.seat by.line (raw_act (clock book.old.journal) raw.now ∷ [])) }
+    ensures kept { OnErr result (book.new ≡ book.old) }
 {
     match book.send_raw(by, raw) {
         Ok(_) => Ok(()),
@@ -503,6 +512,7 @@ fn drain_named<K: Keeper>(
     ensures drains { OnOk result (DrainsNamed (entry_by by.seat by.line) Alone session (number_of name.now book.old.journal) book.old.journal book.new.journal) }
     ensures apart { OnOk result (GoesApart (next_token book.old.journal) book.old.journal book.new.journal) }
     ensures rest { OnOk result (book.new ≡ with_journal book.old book.new.journal) }
+    ensures failed { OnErr result (GoesByOwn by.seat book.old book.new) }
 {
     let Some(doc) = book.find(name) else {
         return book.decline(by, session, Why::NoDoc);
@@ -529,6 +539,7 @@ fn flush_named<K: Keeper>(
     ensures flushes { OnOk result (FlushesNamed (entry_by by.seat by.line) Alone session (number_of name.now book.old.journal) book.old.journal book.new.journal) }
     ensures apart { OnOk result (GoesApart (next_token book.old.journal) book.old.journal book.new.journal) }
     ensures goes_on { OnOk result (GoesOn K.tells book.old book.new) }
+    ensures failed { OnErr result (GoesByOwn by.seat book.old book.new) }
 {
     let Some(doc) = book.find(name) else {
         return book.decline(by, session, Why::NoDoc);

@@ -3,7 +3,9 @@
 
 mod driver;
 mod mail;
+mod making;
 mod syncing;
 
-pub use driver::{Driver, Left, do_lines, tick};
+pub use driver::{Driver, Left, away_clients, do_lines, no_holds, tick};
 pub use mail::receive_all;
+pub use making::make_documents;

@@ -1,11 +1,12 @@
 //! A client gets its mail.
 
-ghost use Rattle.std.specs.Prelude.{◌≡◌, OnOk};
+ghost use Rattle.std.specs.Prelude.{◌≡◌, OnErr, OnOk};
 ghost use Rattle.book.specs.Going.{with_journal};
 ghost use Rattle.book.specs.Roomed.{IsClientAfter, IsClientOf};
 ghost use Rattle.run_rules.specs.Lines.{Gets};
 ghost use Rattle.turn_rules.specs.Owning.{MayWriteFor};
 ghost use Rattle.turn_rules.specs.Turns.{Alone, entry_by};
+ghost use Rattle.script_driver.specs.Failing.{GoesByOwn};
 ghost use Rattle.script_driver.specs.Clients.{GoesQuietly};
 
 use book::{Book, By};
@@ -25,6 +26,7 @@ pub fn receive_all<K: Keeper>(
     ensures client { OnOk result (IsClientAfter book.new.journal client.old client.new) }
     ensures quiet { OnOk result (GoesQuietly client.old.client book.old.journal book.new.journal) }
     ensures rest { OnOk result (book.new ≡ with_journal book.old book.new.journal) }
+    ensures failed { OnErr result (GoesByOwn by.seat book.old book.new) }
 {
     'getting: while book.receive(by, client)?.is_some() {}
     Ok(())

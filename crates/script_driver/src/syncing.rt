@@ -1,6 +1,6 @@
 //! A session's client catches up with its document.
 
-ghost use Rattle.std.specs.Prelude.{◌≡◌, OnOk, length};
+ghost use Rattle.std.specs.Prelude.{◌≡◌, OnErr, OnOk, length};
 ghost use Rattle.journal_rules.specs.Documents.{waiting};
 ghost use Rattle.script_driver.specs.Apart.{GoesApart};
 ghost use Rattle.turn_rules.specs.Draining.{Drains, Stop};
@@ -11,6 +11,7 @@ ghost use Rattle.run_rules.specs.Lines.{Syncs};
 ghost use Rattle.turn_rules.specs.Owning.{MayWriteFor};
 ghost use Rattle.turn_rules.specs.Turns.{Alone, entry_by};
 ghost use Rattle.turn_rules.specs.Clients.{is_present as is_present_lem};
+ghost use Rattle.script_driver.specs.Failing.{GoesByOwn};
 ghost use Rattle.script_driver.specs.Syncing.{GoesApartThenQuietly};
 
 use crate::mail::receive_all;
@@ -36,6 +37,7 @@ pub(crate) fn sync_client<K: Keeper>(
     ensures client { OnOk result (IsClientAfter book.new.journal client.old client.new) }
     ensures goes { OnOk result (GoesApartThenQuietly (next_token book.old.journal) client.old.client book.old.journal book.new.journal) }
     ensures rest { OnOk result (book.new ≡ with_journal book.old book.new.journal) }
+    ensures failed { OnErr result (GoesByOwn by.seat book.old book.new) }
 {
     if !is_present(client) {
         return book.decline(by, client.client(), Why::NotJoined);
@@ -57,6 +59,7 @@ fn drain_waiting<K: Keeper>(
     ensures drains { OnOk result ((stop : Stop) × Drains (entry_by by.seat by.line) Alone doc (length (waiting doc book.old.journal)) book.old.journal book.new.journal stop) }
     ensures apart { OnOk result (GoesApart (next_token book.old.journal) book.old.journal book.new.journal) }
     ensures rest { OnOk result (book.new ≡ with_journal book.old book.new.journal) }
+    ensures own { GoesByOwn by.seat book.old book.new }
 {
     book.legal();
     let most = book.waiting(doc);

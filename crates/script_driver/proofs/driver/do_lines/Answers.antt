@@ -58,13 +58,6 @@ do_line-requires-clause-numbered g c =
     let rest : c.loop-line.line-iterator.rest.items ≡ c.in-Some.line ∷ c.next.new.self.rest.items = search rules in
     by_parts c.args.sessions (length c.loop-line.driver.holds.items) c.in-Some.line c.next.new.self.rest.items (sym c.loop-line.invariant.sessions) (subst (λ (ls : List Line). AreBySessions c.args.sessions ls) rest c.loop-line.invariant.by)
 
-pub do_line-requires-clause-low : goal.do_line-requires-clause-low
-do_line-requires-clause-low g c =
-    let rest : c.loop-line.line-iterator.rest.items ≡ c.in-Some.line ∷ c.next.new.self.rest.items = search rules in
-    let now = c.loop-line.invariant.clock in let cut = ap (λ (ls : List Line). sum_by moved_by ls) rest in
-    let sum = sum_by-append moved_by (c.in-Some.line ∷ []) c.next.new.self.rest.items in let slow = c.requires.slow in
-    omega (arith, now, cut, sum, slow)
-
 pub loop-line-preserved : goal.loop-line-preserved
 loop-line-preserved g c =
     let rest : c.loop-line.line-iterator.rest.items ≡ c.in-Some.line ∷ c.next.new.self.rest.items = search rules in

@@ -10,6 +10,7 @@ use Rattle.book.specs.Shown.{Shown}
 use Rattle.script_driver.proofs.Apart.{apart_on, many_drained, wrote}
 use Rattle.dispatcher.proofs.Draining.{drains_done, drains_held_up}
 use Rattle.script_driver.proofs.Lines.{drains_named}
+use Rattle.script_driver.proofs.Failing.{drained_own, failed_behind, failed_kept}
 use Rattle.script_driver.proofs.driver.drain_named.Goals as goal
 
 pub returns-in-Done-clause-drains : goal.returns-in-Done-clause-drains
@@ -38,3 +39,17 @@ returns-in-Busy-clause-apart g c =
     (λ is. apart_on (next_token old) old mid new (many_drained c.args.by.seat line c.in-Some.doc c.in-Busy.count old mid c.in-Busy.ensures.drained.0)
     (wrote c.args.by.seat line (next_token old) (Declined c.args.session (Busy c.in-Busy.busy)) mid new refl (ap (λ (b : Shown). b.journal) is)))
     c.decline-in-Busy.ensures.ok
+
+pub returns-in_default-clause-failed : goal.returns-in_default-clause-failed
+returns-in_default-clause-failed g c = failed_kept c.args.by.seat c.decline.result c.args.book.now c.decline.new.self c.decline.ensures.kept
+
+pub returns-then-most-eq0-clause-failed : goal.returns-then-most-eq0-clause-failed
+returns-then-most-eq0-clause-failed g c = failed_kept c.args.by.seat c.decline-then-most-eq0.result c.args.book.now c.decline-then-most-eq0.new.self c.decline-then-most-eq0.ensures.kept
+
+pub returns-in-Busy-clause-failed : goal.returns-in-Busy-clause-failed
+returns-in-Busy-clause-failed g c =
+    failed_behind c.args.by.seat c.decline-in-Busy.result c.args.book.now c.drain.new.book c.decline-in-Busy.new.self
+    (drained_own c.args.by.seat c.args.by.line c.in-Some.doc c.in-Busy.count c.args.book.now c.drain.new.book c.drain.ensures.rest c.in-Busy.ensures.drained.0) c.decline-in-Busy.ensures.kept
+
+pub returns-in-Memory-clause-failed : goal.returns-in-Memory-clause-failed
+returns-in-Memory-clause-failed g c = drained_own c.args.by.seat c.args.by.line c.in-Some.doc c.in-Memory.count c.args.book.now c.drain.new.book c.drain.ensures.rest c.in-Memory.ensures.drained.0

@@ -10,6 +10,7 @@ use Rattle.script_driver.proofs.Flushes.{done_puts, failed_puts, flush_apart, fl
 use Rattle.journal_entries.specs.declared.why.Why.TheVariants.{NoDoc}
 use Rattle.book.proofs.Going.{goes_further}
 use Rattle.script_driver.proofs.Resting.{goes_one}
+use Rattle.script_driver.proofs.Failing.{failed_behind, failed_kept, flush_refused, flush_wanting}
 use Rattle.script_driver.proofs.driver.flush_named.Goals as goal
 
 pub returns-in-Done-clause-flushes : goal.returns-in-Done-clause-flushes
@@ -49,3 +50,14 @@ pub returns-in-Refused-clause-goes_on : goal.returns-in-Refused-clause-goes_on
 returns-in-Refused-clause-goes_on g c =
     let mid = c.flush_doc.new.book in let new = c.decline-in-Refused.new.self in
     on_ok_weaker c.decline-in-Refused.result (λ is. goes_further c.args.book.now mid new c.flush_doc.ensures.goes (goes_one mid new c.args.by.seat c.args.by.line (Declined c.args.session c.in-Refused.why) is)) c.decline-in-Refused.ensures.ok
+
+pub returns-in_default-clause-failed : goal.returns-in_default-clause-failed
+returns-in_default-clause-failed g c = failed_kept c.args.by.seat c.decline.result c.args.book.now c.decline.new.self c.decline.ensures.kept
+
+pub returns-in-Refused-clause-failed : goal.returns-in-Refused-clause-failed
+returns-in-Refused-clause-failed g c =
+    failed_behind c.args.by.seat c.decline-in-Refused.result c.args.book.now c.flush_doc.new.book c.decline-in-Refused.new.self
+    (flush_refused c.args.by.seat c.args.book.now c.flush_doc.new.book c.flush_doc.ensures.goes c.in-Refused.ensures.flushes.1) c.decline-in-Refused.ensures.kept
+
+pub returns-in-Memory-clause-failed : goal.returns-in-Memory-clause-failed
+returns-in-Memory-clause-failed g c = flush_wanting c.args.by.seat c.args.by.line c.in-Some.doc c.args.book.now c.flush_doc.new.book c.flush_doc.ensures.goes c.in-Memory.ensures.flushes

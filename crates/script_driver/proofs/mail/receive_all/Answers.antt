@@ -8,7 +8,8 @@ use Rattle.run_rules.specs.Lines.{Gets}
 use Rattle.book.specs.Going.{with_journal}
 use Rattle.book.specs.Shown.{Shown}
 use Rattle.book.proofs.Lists.{none_of}
-use Rattle.script_driver.proofs.Getting.{gets_rest, gets_first, gets_none, gets_quietly, less_mail}
+use Rattle.script_driver.proofs.Failing.{own_on, same_own}
+use Rattle.script_driver.proofs.Getting.{gets_rest, gets_first, gets_none, gets_own, gets_quietly, less_mail}
 use Rattle.script_driver.proofs.Quiet.{quiet_none, quiet_on}
 use Rattle.script_driver.proofs.mail.receive_all.Goals as goal
 
@@ -19,6 +20,7 @@ getting-init g c = record {
   owner = c.requires.owner;
   quiet = quiet_none c.args.client.now.client c.args.book.now.journal c.args.book.now.journal refl;
   rest = refl;
+  own = same_own c.args.by.seat c.args.book.now c.args.book.now refl;
 }
 
 pub getting-smaller : goal.getting-smaller
@@ -39,6 +41,8 @@ getting-preserved g c =
           (subst (λ n. MayWriteFor c.getting.book.drivers c.getting.book.journal c.args.by.seat n) (sym got.client.client_is) was.owner);
       quiet = quiet_on c.args.client.now.client c.args.book.now.journal c.getting.book.journal c.receive.new.self.journal was.quiet more;
       rest = rest ∙ ap (λ b. with_journal b c.receive.new.self.journal) was.rest;
+      own = own_on c.args.by.seat c.args.book.now c.getting.book c.receive.new.self was.own
+          (gets_own c.args.by.seat c.args.by.line c.args.client.now c.getting.client c.getting.book c.receive.new.self c.in_ok-receive.field-0 was.client.client_is some got.first got.got);
     }
 
 pub returns-clause-gets : goal.returns-clause-gets

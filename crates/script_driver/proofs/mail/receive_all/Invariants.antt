@@ -7,6 +7,7 @@ use Rattle.run_rules.specs.Lines.{Gets}
 use Rattle.book.specs.Going.{with_journal}
 use Rattle.book.specs.Roomed.{IsClientAfter}
 use Rattle.script_driver.specs.Clients.{GoesQuietly}
+use Rattle.script_driver.specs.Failing.{GoesByOwn}
 use Rattle.script_driver.proofs.mail.receive_all.Given as goal
 
 -- however the client gets what is left of its mail, it gets the whole so
@@ -17,6 +18,7 @@ invariant-getting g l = record {
   owner : MayWriteFor l.book.drivers l.book.journal l.by.seat l.client.client;
   quiet : GoesQuietly l.initial.client.client l.initial.book.journal l.book.journal;
   rest : l.book ≡ with_journal l.initial.book l.book.journal;
+  own : GoesByOwn l.by.seat l.initial.book l.book;
 }
 
 -- the mail that is left

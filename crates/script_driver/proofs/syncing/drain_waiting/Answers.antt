@@ -8,6 +8,7 @@ use Rattle.dispatcher.specs.Draining.{Drained}
 use Rattle.dispatcher.specs.declared.dispatch.DrainEnd.TheVariants as end
 use Rattle.dispatcher.proofs.Draining.{drains_done, drains_held_up}
 use Rattle.script_driver.proofs.Apart.{many_drained, none_apart}
+use Rattle.script_driver.proofs.Failing.{drained_own, same_own}
 use Rattle.script_driver.proofs.syncing.drain_waiting.Goals as goal
 
 pub returns-then-most-eq0-clause-drains : goal.returns-then-most-eq0-clause-drains
@@ -38,6 +39,7 @@ returns-in-Done g c =
       drains = (Done, subst (λ n. Drains (entry_by c.args.by.seat c.args.by.line) Alone c.args.doc n old new Done) c.waiting-most.ensures (drains_done (entry_by c.args.by.seat c.args.by.line) c.args.doc c.waiting-most.result c.in-Done.count old new d));
       apart = many_drained c.args.by.seat c.args.by.line c.args.doc c.in-Done.count old new d.0;
       rest = c.drain.ensures.rest;
+      own = drained_own c.args.by.seat c.args.by.line c.args.doc c.in-Done.count c.args.book.now c.drain.new.book c.drain.ensures.rest d.0;
     }
 
 pub returns-in-Busy : goal.returns-in-Busy
@@ -49,4 +51,11 @@ returns-in-Busy g c =
       drains = (HeldUp c.in-Busy.busy, subst (λ n. Drains (entry_by c.args.by.seat c.args.by.line) Alone c.args.doc n old new (HeldUp c.in-Busy.busy)) c.waiting-most.ensures (drains_held_up (entry_by c.args.by.seat c.args.by.line) c.args.doc c.waiting-most.result c.in-Busy.count c.in-Busy.busy old new d));
       apart = many_drained c.args.by.seat c.args.by.line c.args.doc c.in-Busy.count old new d.0;
       rest = c.drain.ensures.rest;
+      own = drained_own c.args.by.seat c.args.by.line c.args.doc c.in-Busy.count c.args.book.now c.drain.new.book c.drain.ensures.rest d.0;
     }
+
+pub returns-in-Memory-clause-own : goal.returns-in-Memory-clause-own
+returns-in-Memory-clause-own g c = drained_own c.args.by.seat c.args.by.line c.args.doc c.in-Memory.count c.args.book.now c.drain.new.book c.drain.ensures.rest c.in-Memory.ensures.drained.0
+
+pub returns-then-most-eq0-clause-own : goal.returns-then-most-eq0-clause-own
+returns-then-most-eq0-clause-own g c = same_own c.args.by.seat c.args.book.now c.args.book.now refl

@@ -1,19 +1,12 @@
-use Rattle.std.proofs.Common.{◌∙◌, [], ◌∷◌, ◌++◌, length, None, subst, sym, true, arith}
+use Rattle.std.proofs.Common.{◌∙◌, [], ◌∷◌, ◌++◌, length, None, subst, sym, true}
 use Rattle.journal_entries.specs.declared.act.Act.TheVariants.{Closed}
 use Rattle.run_rules.specs.Ending.{Ends}
 use Rattle.run_rules.specs.Follows.{Follows}
 use Rattle.run_rules.proofs.Completing.{follows_ended}
 use Rattle.turn_rules.specs.Turns.{entry_by}
 use Rattle.book.proofs.Going.{goes_further}
-use Rattle.session_runner.proofs.Fitting.{ticks_low}
 use Rattle.run_end.proofs.Handing.{ends_hand_none}
 use Rattle.session_runner.proofs.ending.run_lines.Goals as goal
-
-pub do_lines-requires-clause-slow : goal.do_lines-requires-clause-slow
-do_lines-requires-clause-slow g c = let low = ticks_low c.args.lines.items c.requires.slow in omega (arith, low)
-
-pub end_run-requires-clause-low : goal.end_run-requires-clause-low
-end_run-requires-clause-low g c = let low = ticks_low c.args.lines.items c.requires.slow in let now = c.in_ok-book.ensures.clock in omega (arith, low, now)
 
 pub end_run-requires-clause-drivers : goal.end_run-requires-clause-drivers
 end_run-requires-clause-drivers g c = c.in_ok-book.ensures.goes_on.drivers_are

@@ -13,6 +13,7 @@ use Rattle.script_driver.proofs.Apart.{wrote}
 use Rattle.script_driver.proofs.Handing.{hand_behind}
 use Rattle.script_driver.proofs.Resting.{goes_one}
 use Rattle.script_driver.proofs.Lines.{apart_behind, apart_raw, behind_doc, behind_tick, both_ok, declined, drained, goes_synced, made, none_found, quiet_behind, sent, synced_behind, ticked}
+use Rattle.script_driver.proofs.Failing.{failed_kept}
 use Rattle.script_driver.proofs.driver.Driver.do_line.Goals as goal
 
 pub make-requires-clause-new : goal.make-requires-clause-new
@@ -22,28 +23,28 @@ make-requires-clause-new g c =
 
 pub returns-in-Doc-clause-driver : goal.returns-in-Doc-clause-driver
 returns-in-Doc-clause-driver g c =
-    on_ok_weaker c.make.result (λ is. made c.args.self.now c.make.new.book (Some c.args.number) (length (makings c.args.self.now.book.journal)) c.in-Doc.doc c.in-Doc.project c.in-Doc.text c.in-Doc.v c.requires.driver is) c.make.ensures
+    on_ok_weaker c.make.result (λ is. made c.args.self.now c.make.new.book (Some c.args.number) (length (makings c.args.self.now.book.journal)) c.in-Doc.doc c.in-Doc.project c.in-Doc.text c.in-Doc.v c.requires.driver is) c.make.ensures.ok
 
 pub returns-in-Doc-clause-behind : goal.returns-in-Doc-clause-behind
 returns-in-Doc-clause-behind g c =
     let old = c.args.self.now.book.journal in let new = c.make.new.book.journal in
-    on_ok_weaker c.make.result (λ is. subst (λ (l : Line). IsBehind l old new) (sym c.in-Doc.is) (behind_doc c.args.self.now.seat (Some c.args.number) old new (length (makings old)) c.in-Doc.doc c.in-Doc.project c.in-Doc.text c.in-Doc.v (ap (λ (b : Shown). b.journal) is))) c.make.ensures
+    on_ok_weaker c.make.result (λ is. subst (λ (l : Line). IsBehind l old new) (sym c.in-Doc.is) (behind_doc c.args.self.now.seat (Some c.args.number) old new (length (makings old)) c.in-Doc.doc c.in-Doc.project c.in-Doc.text c.in-Doc.v (ap (λ (b : Shown). b.journal) is))) c.make.ensures.ok
 
 pub returns-in-Tick-clause-driver : goal.returns-in-Tick-clause-driver
-returns-in-Tick-clause-driver g c = on_ok_weaker c.tick.result (λ is. ticked c.args.self.now c.tick.new.book (Some c.args.number) c.in-Tick.ms c.requires.driver is) c.tick.ensures
+returns-in-Tick-clause-driver g c = on_ok_weaker c.tick.result (λ is. ticked c.args.self.now c.tick.new.book (Some c.args.number) c.in-Tick.ms c.requires.driver is) c.tick.ensures.ok
 
 pub returns-in-Tick-clause-behind : goal.returns-in-Tick-clause-behind
 returns-in-Tick-clause-behind g c =
     let old = c.args.self.now.book.journal in let new = c.tick.new.book.journal in
-    on_ok_weaker c.tick.result (λ is. subst (λ (l : Line). IsBehind l old new) (sym c.in-Tick.is) (behind_tick c.args.self.now.seat (Some c.args.number) old new c.in-Tick.session c.in-Tick.ms (ap (λ (b : Shown). b.journal) is))) c.tick.ensures
+    on_ok_weaker c.tick.result (λ is. subst (λ (l : Line). IsBehind l old new) (sym c.in-Tick.is) (behind_tick c.args.self.now.seat (Some c.args.number) old new c.in-Tick.session c.in-Tick.ms (ap (λ (b : Shown). b.journal) is))) c.tick.ensures.ok
 
 pub returns-in-Some-clause-driver : goal.returns-in-Some-clause-driver
-returns-in-Some-clause-driver g c = on_ok_weaker c.send_raw.result (λ is. sent c.args.self.now c.send_raw.new.book (Some c.args.number) (clock c.args.self.now.book.journal) _ c.requires.driver is) c.send_raw.ensures
+returns-in-Some-clause-driver g c = on_ok_weaker c.send_raw.result (λ is. sent c.args.self.now c.send_raw.new.book (Some c.args.number) (clock c.args.self.now.book.journal) _ c.requires.driver is) c.send_raw.ensures.ok
 
 pub returns-in-Some-clause-behind : goal.returns-in-Some-clause-behind
 returns-in-Some-clause-behind g c =
     let old = c.args.self.now.book.journal in let new = c.send_raw.new.book.journal in
-    on_ok_weaker c.send_raw.result (λ is. subst (λ (l : Line). IsBehind l old new) (sym c.in-Raw.is) (apart_behind _ (next_token old) old new (λ ms. refl) refl (apart_raw c.args.self.now.seat (Some c.args.number) old new (next_token old) (clock old) _ (ap (λ (b : Shown). b.journal) is)))) c.send_raw.ensures
+    on_ok_weaker c.send_raw.result (λ is. subst (λ (l : Line). IsBehind l old new) (sym c.in-Raw.is) (apart_behind _ (next_token old) old new (λ ms. refl) refl (apart_raw c.args.self.now.seat (Some c.args.number) old new (next_token old) (clock old) _ (ap (λ (b : Shown). b.journal) is)))) c.send_raw.ensures.ok
 
 pub returns-in-Raw-clause-driver : goal.returns-in-Raw-clause-driver
 returns-in-Raw-clause-driver g c = on_ok_weaker c.decline.result (λ is. declined c.args.self.now c.decline.new.self (Some c.args.number) c.in-Raw.session NoDoc c.requires.driver is) c.decline.ensures.ok
@@ -137,13 +138,13 @@ returns-in-Hand-clause-behind g c =
 
 -- ---- the book goes on
 pub returns-in-Doc-clause-goes_on : goal.returns-in-Doc-clause-goes_on
-returns-in-Doc-clause-goes_on g c = on_ok_weaker c.make.result (λ is. goes_one c.args.self.now.book c.make.new.book c.args.self.now.seat (Some c.args.number) _ is) c.make.ensures
+returns-in-Doc-clause-goes_on g c = on_ok_weaker c.make.result (λ is. goes_one c.args.self.now.book c.make.new.book c.args.self.now.seat (Some c.args.number) _ is) c.make.ensures.ok
 
 pub returns-in-Tick-clause-goes_on : goal.returns-in-Tick-clause-goes_on
-returns-in-Tick-clause-goes_on g c = on_ok_weaker c.tick.result (λ is. goes_one c.args.self.now.book c.tick.new.book c.args.self.now.seat (Some c.args.number) _ is) c.tick.ensures
+returns-in-Tick-clause-goes_on g c = on_ok_weaker c.tick.result (λ is. goes_one c.args.self.now.book c.tick.new.book c.args.self.now.seat (Some c.args.number) _ is) c.tick.ensures.ok
 
 pub returns-in-Some-clause-goes_on : goal.returns-in-Some-clause-goes_on
-returns-in-Some-clause-goes_on g c = on_ok_weaker c.send_raw.result (λ is. goes_one c.args.self.now.book c.send_raw.new.book c.args.self.now.seat (Some c.args.number) _ is) c.send_raw.ensures
+returns-in-Some-clause-goes_on g c = on_ok_weaker c.send_raw.result (λ is. goes_one c.args.self.now.book c.send_raw.new.book c.args.self.now.seat (Some c.args.number) _ is) c.send_raw.ensures.ok
 
 pub returns-in-Raw-clause-goes_on : goal.returns-in-Raw-clause-goes_on
 returns-in-Raw-clause-goes_on g c = on_ok_weaker c.decline.result (λ is. goes_one c.args.self.now.book c.decline.new.self c.args.self.now.seat (Some c.args.number) _ is) c.decline.ensures.ok
@@ -189,3 +190,16 @@ returns-in-Rejoin-clause-goes_on g c = on_ok_weaker c.tell-in-Rejoin.result (λ 
 
 pub returns-in-Hand-clause-goes_on : goal.returns-in-Hand-clause-goes_on
 returns-in-Hand-clause-goes_on g c = on_ok_weaker c.hand.result (λ is. goes_one c.args.self.now.book c.hand.new.self.book c.args.self.now.seat (Some c.args.number) _ is) c.hand.ensures.hands
+
+-- ---- a line that failed
+pub returns-in-Doc-clause-failed : goal.returns-in-Doc-clause-failed
+returns-in-Doc-clause-failed g c = failed_kept c.args.self.now.seat c.make.result c.args.self.now.book c.make.new.book c.make.ensures.kept
+
+pub returns-in-Tick-clause-failed : goal.returns-in-Tick-clause-failed
+returns-in-Tick-clause-failed g c = failed_kept c.args.self.now.seat c.tick.result c.args.self.now.book c.tick.new.book c.tick.ensures.kept
+
+pub returns-in-Some-clause-failed : goal.returns-in-Some-clause-failed
+returns-in-Some-clause-failed g c = failed_kept c.args.self.now.seat c.send_raw.result c.args.self.now.book c.send_raw.new.book c.send_raw.ensures.kept
+
+pub returns-in-Raw-clause-failed : goal.returns-in-Raw-clause-failed
+returns-in-Raw-clause-failed g c = failed_kept c.args.self.now.seat c.decline.result c.args.self.now.book c.decline.new.self c.decline.ensures.kept

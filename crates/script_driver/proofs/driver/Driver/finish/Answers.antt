@@ -22,6 +22,7 @@ use Rattle.std.proofs.lemmas.List.{length-set}
 use Rattle.std.proofs.lemmas.Result.{on_ok_weaker}
 use Rattle.script_driver.proofs.Lines.{declined}
 use Rattle.script_driver.proofs.Taking.{stale_why}
+use Rattle.script_driver.proofs.Failing.{failed_behind, failed_kept, same_own}
 use Rattle.script_driver.proofs.driver.Driver.finish.Goals as goal
 
 pub returns-in_default-clause-driver : goal.returns-in_default-clause-driver
@@ -96,3 +97,11 @@ returns-in-Err-Stale-clause-driver g c =
     (is ∙ ap (λ (b : Shown). adds b c.args.self.now.seat (Some c.args.number) (Declined c.args.session (IsStale c.in-Err-Stale.stale) ∷ [])) c.in-Err-Stale.ensures.kept) in
     record { held = subst (λ (hs : List (Option Prepared)). AreHeld c.args.self.now.seat hs new.journal) (sym c.in-Some.ensures.now) (given_up holds new.journal c.args.session c.requires.session d.held); clients = d.clients; many = d.many ∙ sym (ap length c.in-Some.ensures.now ∙ length-set holds c.args.session None); handed = d.handed })
     c.decline-in-Err-Stale.ensures.ok
+
+pub returns-in_default-clause-failed : goal.returns-in_default-clause-failed
+returns-in_default-clause-failed g c = failed_kept c.args.self.now.seat c.decline.result c.args.self.now.book c.decline.new.self c.decline.ensures.kept
+
+pub returns-in-Err-Stale-clause-failed : goal.returns-in-Err-Stale-clause-failed
+returns-in-Err-Stale-clause-failed g c =
+    failed_behind c.args.self.now.seat c.decline-in-Err-Stale.result c.args.self.now.book c.commit.new.self c.decline-in-Err-Stale.new.self
+    (same_own c.args.self.now.seat c.args.self.now.book c.commit.new.self c.in-Err-Stale.ensures.kept) c.decline-in-Err-Stale.ensures.kept

@@ -23,6 +23,7 @@ use Rattle.script_driver.proofs.Holding.{kept_set, taken_up}
 use Rattle.script_driver.proofs.Lines.{declined, holds_already, holds_taken, holds_unnamed, holds_why, keeps_none, keeps_some}
 use Rattle.dispatcher.proofs.Taking.{takes, token_taken}
 use Rattle.script_driver.proofs.Taking.{empty_why, held_up, holdable, none_waits, stands_taken}
+use Rattle.script_driver.proofs.Failing.{added_own, failed_always, failed_behind, failed_kept, same_own}
 use Rattle.script_driver.proofs.driver.Driver.hold.Goals as goal
 
 pub returns-then-is_kept-clause-holds : goal.returns-then-is_kept-clause-holds
@@ -116,3 +117,28 @@ returns-in-Err-Busy-clause-driver g c =
     on_ok_weaker c.decline-in-Err-Busy.result (λ is. declined c.args.self.now c.decline-in-Err-Busy.new.self (Some c.args.number) c.args.session (Busy c.in-Err-Busy.busy) c.requires.driver
     (is ∙ ap (λ (b : IsBusy). adds c.acquire.new.self c.args.self.now.seat (Some c.args.number) (Declined c.args.session (Busy b) ∷ [])) c.in-Err-Busy.busy-is
     ∙ ap (λ (b : Shown). adds b c.args.self.now.seat (Some c.args.number) (Declined c.args.session (Busy c.in-Err-Busy.busy) ∷ [])) c.in-Err-Busy.ensures.kept)) c.decline-in-Err-Busy.ensures.ok
+
+pub returns-then-is_kept-clause-failed : goal.returns-then-is_kept-clause-failed
+returns-then-is_kept-clause-failed g c = failed_kept c.args.self.now.seat c.decline.result c.args.self.now.book c.decline.new.self c.decline.ensures.kept
+
+pub returns-in_default-clause-failed : goal.returns-in_default-clause-failed
+returns-in_default-clause-failed g c = failed_kept c.args.self.now.seat c.decline-in_default.result c.args.self.now.book c.decline-in_default.new.self c.decline-in_default.ensures.kept
+
+pub returns-in-Err-Empty-clause-failed : goal.returns-in-Err-Empty-clause-failed
+returns-in-Err-Empty-clause-failed g c =
+    failed_behind c.args.self.now.seat c.decline-in-Err-Empty.result c.args.self.now.book c.acquire.new.self c.decline-in-Err-Empty.new.self
+    (same_own c.args.self.now.seat c.args.self.now.book c.acquire.new.self c.in-Err-Empty.ensures.kept) c.decline-in-Err-Empty.ensures.kept
+
+pub returns-in-Err-Busy-clause-failed : goal.returns-in-Err-Busy-clause-failed
+returns-in-Err-Busy-clause-failed g c =
+    failed_behind c.args.self.now.seat c.decline-in-Err-Busy.result c.args.self.now.book c.acquire.new.self c.decline-in-Err-Busy.new.self
+    (same_own c.args.self.now.seat c.args.self.now.book c.acquire.new.self c.in-Err-Busy.ensures.kept) c.decline-in-Err-Busy.ensures.kept
+
+pub returns-in-Err-Memory-clause-failed : goal.returns-in-Err-Memory-clause-failed
+returns-in-Err-Memory-clause-failed g c = same_own c.args.self.now.seat c.args.self.now.book c.acquire.new.self c.in-Err-Memory.ensures.kept
+
+pub returns-in_err-prepare-in-Ok-clause-failed : goal.returns-in_err-prepare-in-Ok-clause-failed
+returns-in_err-prepare-in-Ok-clause-failed g c =
+    let old = c.args.self.now.book in
+    failed_always c.args.self.now.seat c.from_residual.result old c.acquire.new.self
+    (added_own c.args.self.now.seat old c.acquire.new.self (Some c.args.number) (acquired c.in-Some.doc old.journal) refl c.in-Ok.ensures.acquired)

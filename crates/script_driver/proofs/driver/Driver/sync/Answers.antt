@@ -10,6 +10,8 @@ use Rattle.script_driver.specs.Syncing.{GoesApartThenQuietly}
 use Rattle.script_driver.proofs.Lines.{both_ok}
 use Rattle.script_driver.proofs.Owning.{get_there, synced_driver}
 use Rattle.turn_rules.specs.Owning.{client_owner}
+use Rattle.std.specs.Prelude.{OnErr}
+use Rattle.script_driver.specs.Failing.{GoesByOwn}
 use Rattle.script_driver.proofs.driver.Driver.sync.Goals as goal
 
 pub returns-clause-syncs : goal.returns-clause-syncs
@@ -46,3 +48,6 @@ sync_client-requires-clause-client g c =
     let was = c.in-Some.client.now in
     let at : slice_get c.args.self.now.clients.items c.args.session ≡ Some was = get_there c.args.self.now.clients.items c.args.session was (subst (λ n. c.args.session < n) (sym c.requires.driver.many) c.requires.session) c.in-Some.ensures.value in
     (c.requires.driver.clients.each c.args.session was at).1 c.requires.owned
+
+pub returns-clause-failed : goal.returns-clause-failed
+returns-clause-failed g c = subst (λ s. OnErr c.sync_client.result (GoesByOwn s c.args.self.now.book c.sync_client.new.book)) c.requires.seat c.sync_client.ensures.failed

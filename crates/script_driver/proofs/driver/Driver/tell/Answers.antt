@@ -7,6 +7,7 @@ use Rattle.client_lines.specs.Lines.{client_act}
 use Rattle.script_driver.proofs.Lines.{both_ok}
 use Rattle.script_driver.proofs.Owning.{get_there, own_act, own_driver, own_goes, own_line}
 use Rattle.turn_rules.specs.Owning.{client_owner}
+use Rattle.script_driver.proofs.Failing.{failed_both}
 use Rattle.script_driver.proofs.driver.Driver.tell.Goals as goal
 
 pub returns-clause-driver : goal.returns-clause-driver
@@ -34,3 +35,6 @@ do_line-requires-clause-client g c =
     let was = c.in-Some.client.now in
     let at : slice_get c.args.self.now.clients.items c.args.session ≡ Some was = get_there c.args.self.now.clients.items c.args.session was (subst (λ n. c.args.session < n) (sym c.requires.driver.many) c.requires.session) c.in-Some.ensures.value in
     (c.requires.driver.clients.each c.args.session was at).1 c.requires.owned
+
+pub returns-clause-failed : goal.returns-clause-failed
+returns-clause-failed g c = failed_both c.args.self.now.seat _ c.do_line.result c.args.self.now.book c.do_line.new.book c.do_line.ensures.kept
