@@ -1,0 +1,4 @@
+pub mod Others
+pub mod Does
+pub mod Keeps
+pub mod Follows
