@@ -8,6 +8,7 @@ ghost use Rattle.book.specs.Looking.{IsDecided, IsOf};
 use book::{AcquireFault, Book, By, CommitFault, HandFault, Prepared, RawUpdate};
 use dup_check::decide;
 use expiring_lock::{Busy, Stale};
+use history_queue::Item;
 use journal_entries::{Act, Outcome, Sources};
 use keeper::SureKeeper;
 use ot_op::{Comp, FormFault, Op};
@@ -50,11 +51,8 @@ fn raw(alloc: Global, doc: u32, op: Result<Op, FormFault>) -> Result<RawUpdate, 
     })
 }
 
-// A book with the document `abc`, and one update that waits for it.
-fn begun(alloc: Global) -> Result<Book<SureKeeper>, Fail> {
-    let Ok(mut book) = Book::new(alloc, SureKeeper::new(alloc), 0) else {
-        return Err(Fail::new("no book"));
-    };
+// Makes the document `abc` in an empty book, and sends one update to it.
+fn begin(alloc: Global, book: &mut Book<SureKeeper>) -> Result<(), Fail> {
     if book.docs() != 0 {
         return Err(Fail::new("a document of a new book"));
     }
@@ -67,7 +65,7 @@ fn begun(alloc: Global) -> Result<Book<SureKeeper>, Fail> {
     if sent != Ok(Some(1)) {
         return Err(Fail::new("no ticket"));
     }
-    Ok(book)
+    Ok(())
 }
 
 // A seat acquires the document, and decides on the first update that waits.
@@ -212,26 +210,40 @@ fn taken_over(
     Ok((busy, stale, more))
 }
 
+// What a takeover in an empty book comes to: by whom the document was held, why the first holder was refused, whether
+// more waits, and whether the update is applied.
+fn overtake(
+    alloc: Global,
+    book: &mut Book<SureKeeper>,
+) -> Result<(Busy, Option<Stale>, Option<bool>, bool), Fail> {
+    begin(alloc, book)?;
+    let first = prepared(alloc, book, 1)?;
+    let (busy, stale, more) = taken_over(alloc, book, first)?;
+    let applied = is_applied(book);
+    Ok((busy, stale, more, applied))
+}
+
 #[test]
 fn an_expired_holder_commits_nothing(rt: HostRuntime) -> Result<(), Fail> {
     let alloc = rt.alloc();
-    let mut book = begun(alloc)?;
-    let first = prepared(alloc, &mut book, 1)?;
-    let (busy, stale, more) = taken_over(alloc, &mut book, first)?;
+    let Ok(mut book) = Book::new(alloc, SureKeeper::new(alloc), 0) else {
+        return Err(Fail::new("no book"));
+    };
+    let (busy, stale, more, applied) = overtake(alloc, &mut book)?;
     assert!(rt; busy.token == 1 && busy.until == 30_000);
-    assert!(rt; more == Some(false) && is_applied(&book));
+    assert!(rt; more == Some(false) && applied);
     assert!(rt; stale == Some(Stale::Other(2)));
     Ok(())
 }
 
-// A book in which the update was applied to the document.
-fn applied(alloc: Global) -> Result<Book<SureKeeper>, Fail> {
-    let mut book = begun(alloc)?;
-    let prepared = prepared(alloc, &mut book, 0)?;
+// Applies the update to the document of an empty book.
+fn apply(alloc: Global, book: &mut Book<SureKeeper>) -> Result<(), Fail> {
+    begin(alloc, book)?;
+    let prepared = prepared(alloc, book, 0)?;
     let Ok(()) = book.commit(by(0), prepared) else {
         return Err(Fail::new("a token that doesn't stand"));
     };
-    Ok(book)
+    Ok(())
 }
 
 // How many items of the only project were handed out, and how many are left.
@@ -242,28 +254,56 @@ fn counts(book: &Book<SureKeeper>) -> Option<(u64, u64)> {
     Some((book.history_handed(0), book.history_left(0)))
 }
 
+// Whether an item is what came of the update.
+fn is_item(alloc: Global, item: &Item) -> Result<bool, Fail> {
+    let op = insert(alloc)?;
+    Ok(
+        (item.doc, item.v, item.ms, item.length_before) == (0, 0, 0, 3)
+            && item.user.as_str() == "u"
+            && item.op.comps() == op.comps(),
+    )
+}
+
+// Hands out so many, and whether so many came, all of the update, and so many came so far and are left.
+fn hands_out(
+    alloc: Global,
+    book: &mut Book<SureKeeper>,
+    n: u64,
+    count: usize,
+    counted: (u64, u64),
+) -> Result<bool, Fail> {
+    let project = name(alloc, "p")?;
+    let items = book.hand_history(by(0), &project, n)?;
+    for item in &items {
+        if !is_item(alloc, item)? {
+            return Ok(false);
+        }
+    }
+    Ok(items.len() == count && counts(book) == Some(counted))
+}
+
+// Whether history comes out once: none of an unknown project, none where none is asked for, then all, and then none.
+fn hands_out_once(alloc: Global, book: &mut Book<SureKeeper>) -> Result<bool, Fail> {
+    apply(alloc, book)?;
+    let unknown = name(alloc, "q")?;
+    let unknown = book.hand_history(by(0), &unknown, 1);
+    if !matches!(unknown, Err(HandFault::NoProject)) {
+        return Ok(false);
+    }
+    Ok(
+        hands_out(alloc, book, 0, 0, (0, 1))?
+            && hands_out(alloc, book, 5, 1, (1, 0))?
+            && hands_out(alloc, book, 5, 0, (1, 0))?,
+    )
+}
+
 #[test]
 fn history_is_handed_out_once(rt: HostRuntime) -> Result<(), Fail> {
     let alloc = rt.alloc();
-    let mut book = applied(alloc)?;
-    let project = name(alloc, "p")?;
-    assert_eq!(rt; counts(&book), Some((0, 1)));
-    let unknown = book.hand_history(by(0), &name(alloc, "q")?, 1);
-    assert!(rt; matches!(unknown, Err(HandFault::NoProject)));
-    // How many are asked for, how many come, how many came so far, and how many are left.
-    for (n, count, handed, left) in [(0, 0, 0, 1), (5, 1, 1, 0), (5, 0, 1, 0)] {
-        let items = book.hand_history(by(0), &project, n)?;
-        assert_eq!(rt; items.len(), count);
-        assert_eq!(rt; counts(&book), Some((handed, left)));
-        for item in &items {
-            assert_eq!(rt;
-                (item.doc, item.v, item.ms, item.length_before),
-                (0, 0, 0, 3)
-            );
-            assert_eq!(rt; item.user.as_str(), "u");
-            assert_eq!(rt; item.op.comps(), insert(alloc)?.comps());
-        }
-    }
+    let Ok(mut book) = Book::new(alloc, SureKeeper::new(alloc), 0) else {
+        return Err(Fail::new("no book"));
+    };
+    assert!(rt; hands_out_once(alloc, &mut book)?);
     assert_eq!(rt; book.journal().len(), 7);
     Ok(())
 }
