@@ -1,7 +1,10 @@
 -- Lines that were driven among others make a course of which the driver's start is the beginning.
-use Rattle.std.proofs.Common.{◌≡◌, ℕ, List, [], ◌∷◌, ◌++◌, refl, sym, subst}
-use Rattle.std.specs.Prelude.{Some, None}
+use Rattle.std.proofs.Common.{◌≡◌, ℕ, List, [], ◌∷◌, ◌++◌, true, length, refl, sym, ap, ◌∙◌, subst, arith}
+use Rattle.std.specs.Prelude.{slice_get, Some, None}
 use Rattle.journal_entries.specs.declared.act.Entry.{Entry}
+use Rattle.journal_rules.proofs.Legality.{seam}
+use Rattle.seat_turns.specs.Closings.{IsEachClosed, is_closing_in}
+use Rattle.seat_turns.proofs.Watching.{closed_where, one_closed}
 use Rattle.session_lines.specs.Script.{session_of}
 use Rattle.session_lines.specs.declared.line.Line.{Line}
 use Rattle.turn_rules.specs.Turns.{Among, is_by}
@@ -41,3 +44,10 @@ drive_follows lines start seen last look journal among drives more is workers =
       next = r.2;
       more = subst (λ (j : List Entry). Among (is_by 1) (look ++ closing 0 ∷ []) j) (sym is) (among_same (is_by 1) (look ++ closing 0 ∷ []));
     }
+
+-- ---- the end
+pub each_closed : (look journal : List Entry) → journal ≡ look ++ closing 0 ∷ [] → IsEachClosed 1 journal
+each_closed look journal is = one_closed 0 journal (λ d low. absurd (omega (arith, low))) (closed_where 0 journal (length look) at)
+  where
+    at : true ≡ is_closing_in 0 (slice_get journal (length look))
+    at = sym (ap (is_closing_in 0) (ap (λ (j : List Entry). slice_get j (length look)) is ∙ seam look (closing 0) []))

@@ -9,7 +9,7 @@ ghost use Rattle.script_driver.specs.Clients.{AreClientsOf};
 ghost use Rattle.script_driver.specs.Fitting.{CanBeDriven};
 ghost use Rattle.script_driver.specs.Handing.{items_handed_by};
 ghost use Rattle.script_driver.specs.Holding.{kept_in};
-ghost use Rattle.seat_turns.specs.Closings.{IfClosed};
+ghost use Rattle.seat_turns.specs.Closings.{IfClosed, IsEachClosed};
 ghost use Rattle.seat_turns.specs.Seats.{IsAtRest, IsIdle, IsSameSeat};
 ghost use Rattle.turn_rules.specs.Turns.{is_by};
 ghost use Rattle.drivers.specs.Driving.{Drives, IsKept, IsOpen, StartsWith};
@@ -63,6 +63,7 @@ pub fn drive<K: Keeper, N: QueuePast, R: Wait>(
     requires lines { CanBeDriven sessions lines.items }
     ensures seat { IsAtRest board.now result.seat × IsSameSeat seat result.seat }
     ensures pass { (result.pass.queue ≡ wakes.now) × (result.pass.number ≡ pass.number) }
+    ensures closed { IsEachClosed 1 result.seat.view.seen }
     ensures follows { IfClosed result.end ((workers : ℕ) → DriverFollows (with_workers workers) lines.items seat.view.seen result.seat.view.seen 0) }
     ensures clients { IfClosed result.end (AreClientsOf result.clients.items result.seat.view.seen × (length result.clients.items ≡ sessions)) }
     ensures handed { IfClosed result.end (result.handed.items ≡ items_handed_by (is_by 1) result.seat.view.seen) }

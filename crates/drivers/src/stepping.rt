@@ -6,6 +6,7 @@ ghost use Rattle.run_rules.specs.Lines.{Does};
 ghost use Rattle.run_rules.specs.Threads.{closing};
 ghost use Rattle.script_driver.specs.Fitting.{IsFit, is_built};
 ghost use Rattle.script_driver.specs.Holding.{kept_in};
+ghost use Rattle.seat_turns.specs.Closings.{IsEachClosed};
 ghost use Rattle.seat_turns.specs.Seats.{IsIdle, IsInTurn, IsSameSeat};
 ghost use Rattle.session_lines.specs.Script.{session_of};
 ghost use Rattle.session_lines.specs.Standing.{is_one_of};
@@ -58,6 +59,7 @@ pub(crate) fn close<K: Keeper, R: Wait>(rt: &R, board: &Board<Book<K>>, seat: &m
     requires unclosed { IsOpen seat.old.view.seen }
     ensures idle { IsIdle board.now seat.new }
     ensures same { IsSameSeat seat.old seat.new }
+    ensures closed { IsEachClosed 1 seat.new.view.seen }
     ensures closes { (journal : List Entry) × IsLook seat.old.view.seen journal × (seat.new.view.seen ≡ journal ++ closing 0 ∷ []) }
 {
     let mut book = look(rt, board, seat);

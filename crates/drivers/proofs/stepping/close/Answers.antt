@@ -4,6 +4,7 @@ use Rattle.journal_entries.specs.declared.act.Act.TheVariants.{Closed}
 use Rattle.turn_rules.specs.Owning.{driver_count, driver_owner}
 use Rattle.book.specs.Shown.{Shown}
 use Rattle.seat_turns.proofs.Turning.{longer_at, longer_by_acts}
+use Rattle.drivers.proofs.Follows.{each_closed}
 use Rattle.drivers.proofs.Keeps.{open_at}
 use Rattle.drivers.proofs.stepping.close.Goals as goal
 
@@ -33,3 +34,6 @@ give-requires-clause-own g c =
 
 pub returns-clause-closes : goal.returns-clause-closes
 returns-clause-closes g c = (c.look-book.result.journal, c.look-book.ensures.looks, c.give.ensures.seen ∙ ap (λ (b : Shown). b.journal) c.close_driver.ensures)
+
+pub returns-clause-closed : goal.returns-clause-closed
+returns-clause-closed g c = each_closed c.look-book.result.journal c.give.new.seat.view.seen (c.give.ensures.seen ∙ ap (λ (b : Shown). b.journal) c.close_driver.ensures)
